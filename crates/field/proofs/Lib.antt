@@ -1,0 +1,12 @@
+pub mod Xor
+pub mod Tests
+pub mod Lists
+pub mod Sums
+pub mod Words
+pub mod Field
+pub mod Remainder
+pub mod Mixing
+pub mod Eight
+pub mod Substitution
+pub mod Merged
+pub mod Forms

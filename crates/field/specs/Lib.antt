@@ -1,0 +1,7 @@
+pub mod Lists
+pub mod Words
+pub mod Substitution
+pub mod Field
+pub mod Mixing
+pub mod Merged
+pub mod Published

@@ -1,0 +1,21 @@
+-- The substitution (the article's section 3.7). It is a list s of 256 bytes: the published one, Table 1, stands in Published.
+-- Assumes nothing.
+use Prim.Native.Nat.{ℕ, zero, suc}
+use mathlib.Core.Bool.{true, false}
+use mathlib.Core.List.{List, [], _∷_}
+use lib.Dec.{eqb}
+use lib.ListN.{getD}
+use Rattle.field.specs.Lists.{tabulate}
+
+-- 3.7: S(x) stands at place x of the list
+unfoldable pub sub : List ℕ → ℕ → ℕ
+sub s x = getD s x 0
+
+-- 3.7: the inverse of S at y is the place where y stands in the list (the first, counted from 0)
+unfoldable pub subInv : List ℕ → ℕ → ℕ
+subInv [] y = 0
+subInv (x ∷ s) y = elim (eqb x y) [ true ↦ 0 | false ↦ suc (subInv s y) ]
+
+-- the inverse as a list of 256 bytes
+unfoldable pub invert : List ℕ → List ℕ
+invert s = tabulate 256 (subInv s)
