@@ -1,0 +1,37 @@
+#!/usr/bin/env bash
+# The gate: rt ci once, then every other check on what it built. The last line is rt ci's own, printed again only if all passed.
+set -u
+cd "$(dirname "$0")/.." || exit 1
+for tool in rt python3 sha256sum cmp awk sort; do
+    command -v "$tool" >/dev/null || { echo "gate: $tool is not here"; exit 1; }
+done
+work=$(mktemp -d) || exit 1
+trap 'rm -rf "$work"' EXIT
+failures=0
+fail() { echo "gate: FAILED: $*"; failures=$((failures + 1)); }
+
+# ---- rt ci: proofs, must-fail edits, programs
+began=$(date +%s)
+rt ci 2>&1 | tee "$work/ci"
+[ "${PIPESTATUS[0]}" -eq 0 ] || fail "rt ci"
+last=$(tail -n 1 "$work/ci")
+[[ $last =~ ^[0-9]+\ passed,\ 0\ failed$ ]] || fail "rt ci's last line: $last"
+echo "gate: rt ci took $(($(date +%s) - began)) s"
+
+# ---- the layout
+rt fmt --check >"$work/fmt" 2>&1 || { cat "$work/fmt"; fail "rt fmt --check"; }
+
+# ---- must-fail edits: each was refused because a fact no longer holds
+tests/must_fail.py || fail "must-fail edits"
+
+# ---- library crates assume nothing
+tests/axioms.py || fail "assumptions"
+
+# ---- the archivists' program is as it was brought, and agrees with its own tests
+(cd tests/archivists && sha256sum --quiet --strict -c SHA256SUMS) || fail "tests/archivists was altered"
+
+# ---- the expected outputs are the archivists'
+tests/compare.sh || fail "the comparison with the archivists"
+
+[ "$failures" -eq 0 ] || { echo "gate: $failures checks failed"; exit 1; }
+echo "$last"
