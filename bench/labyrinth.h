@@ -1,0 +1,7 @@
+#include <stddef.h>
+#include <stdint.h>
+
+/* the schedule of 20 half-blocks (at most 80 words) of a working key, for enciphering or, with back, for deciphering */
+void lab_schedule(int n, const uint64_t *w, int back, uint64_t *k);
+/* many blocks, each by itself */
+void lab_blocks(int n, const uint64_t *k, const uint8_t *src, uint8_t *dst, size_t blocks);

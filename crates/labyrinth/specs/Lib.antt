@@ -1,0 +1,5 @@
+pub mod Blocks
+pub mod Cipher
+pub mod Keys
+pub mod Refusals
+pub mod Working

@@ -1,0 +1,58 @@
+-- Forms that the code works in: no part of the article. Halves of at most four words in a record, and the subkeys laid out in the order of
+-- their use, at most 80 words: IT low and high, the sixteen rounds, FT low and high. Laws tie them to the definitions.
+-- Assumes nothing.
+use Prim.Native.Nat.{ℕ, _+_, _*_, _/_, _%_}
+use mathlib.Core.Bool.{Bool, true, false, _&&_}
+use mathlib.Core.List.{List, [], _∷_, _++_, reverse}
+use lib.Dec.{eqb, ltb}
+use lib.ListN.{getD, length, take, replicate}
+use Rattle.field.specs.Lists.{tabulate, pick}
+use Rattle.labyrinth.specs.declared.Halves.{Halves}
+use Rattle.labyrinth.specs.Blocks.{Block, load, store}
+use Rattle.labyrinth.specs.Cipher.{Parts, EF}
+use Rattle.labyrinth.specs.Keys.{half, order}
+use Rattle.labyrinth.specs.Refusals.{legal}
+
+-- a list of at most four words, with zeros behind it, and four words of any list
+unfoldable pub room : List ℕ → List ℕ
+room x = take 4 (x ++ replicate 4 0)
+
+-- a block as the record holds it
+unfoldable pub held : Block → Halves
+held s = record { high = room (s .0); low = room (s .1) }
+
+-- the block of n words a half that a record holds
+unfoldable pub blockIn : ℕ → Halves → Block
+blockIn n h = (take n (h .high), take n (h .low))
+
+-- the block where the test holds, else none
+unfoldable pub only : Bool → Block → Block
+only true s = s
+only false s = ([], [])
+
+-- n is legal, and a buffer has a block's length
+unfoldable pub fits : ℕ → List ℕ → Bool
+fits n buffer = legal n && eqb (length buffer) (16 * n)
+
+-- the new content where the test holds, else the old
+unfoldable pub choose : Bool → List ℕ → List ℕ → List ℕ
+choose true new old = new
+choose false new old = old
+
+-- the subkey numbers in the order of their use, enciphering (false) and deciphering (true)
+unfoldable pub useOrder : Bool → List ℕ
+useOrder false = 4 ∷ 7 ∷ (order ++ (3 ∷ 6 ∷ []))
+useOrder true = 3 ∷ 6 ∷ (reverse order ++ (4 ∷ 7 ∷ []))
+
+-- the schedule of a working key; zeros for an illegal n
+unfoldable pub schedule : ℕ → List ℕ → Bool → List ℕ
+schedule n ws back =
+    tabulate 80 (λ i. pick (legal n && ltb i (20 * n)) (getD ws (getD (useOrder back) (i / n) 0 * n + i % n) 0))
+
+-- EF under a schedule
+unfoldable pub line : Parts → ℕ → List ℕ → Block → Block
+line p n ks s = EF p n (half n ks 1, half n ks 0) (λ i. half n ks (i + 2)) (half n ks 19, half n ks 18) s
+
+-- the block map of a schedule, on bytes
+unfoldable pub lineBytes : Parts → ℕ → List ℕ → List ℕ → List ℕ
+lineBytes p n ks b = store n (line p n ks (load n b))
