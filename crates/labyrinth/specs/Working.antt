@@ -1,11 +1,12 @@
 -- Forms that the code works in: no part of the article. Halves of at most four words in a record, and the subkeys laid out in the order of
 -- their use, at most 80 words: IT low and high, the sixteen rounds, FT low and high. Laws tie them to the definitions.
 -- Assumes nothing.
-use Prim.Native.Nat.{ℕ, _+_, _*_, _/_, _%_}
+use mathlib.Core.Path.{_≡_}
+use Prim.Native.Nat.{ℕ, _+_, _*_, _/_, _%_, _<_, _≤_}
 use mathlib.Core.Bool.{Bool, true, false, _&&_}
 use mathlib.Core.List.{List, [], _∷_, _++_, reverse}
 use lib.Dec.{eqb, ltb}
-use lib.ListN.{getD, length, take, replicate}
+use lib.ListN.{getD, length, take, drop, replicate}
 use Rattle.field.specs.Lists.{tabulate, pick}
 use Rattle.labyrinth.specs.declared.Halves.{Halves}
 use Rattle.labyrinth.specs.Blocks.{Block, load, store}
@@ -13,11 +14,26 @@ use Rattle.labyrinth.specs.Cipher.{Parts, EF}
 use Rattle.labyrinth.specs.Keys.{half, order}
 use Rattle.labyrinth.specs.Refusals.{legal}
 
--- a list of at most four words, with zeros behind it, and four words of any list
+-- n is 1, 2 or 4, in a form that arithmetic reads
+pub record Size (n : ℕ) : Type 0 where
+  pub pos : 0 < n
+  pub top : n ≤ 4
+  pub odd : n ≡ 3 → ⊥
+
+-- n words of a list, from a place on
+unfoldable pub wordsFrom : ℕ → ℕ → List ℕ → List ℕ
+wordsFrom n at ws = tabulate n (λ i. getD ws (at + i) 0)
+
+-- the first where the test holds, else the second
+unfoldable pub choose : {A : Type 0} → Bool → A → A → A
+choose true x y = x
+choose false x y = y
+
+-- a list of at most four words, with zeros behind it
 unfoldable pub room : List ℕ → List ℕ
 room x = take 4 (x ++ replicate 4 0)
 
--- a block as the record holds it
+-- a block of at most four words a half as the record holds it
 unfoldable pub held : Block → Halves
 held s = record { high = room (s .0); low = room (s .1) }
 
@@ -25,19 +41,13 @@ held s = record { high = room (s .0); low = room (s .1) }
 unfoldable pub blockIn : ℕ → Halves → Block
 blockIn n h = (take n (h .high), take n (h .low))
 
--- the block where the test holds, else none
-unfoldable pub only : Bool → Block → Block
-only true s = s
-only false s = ([], [])
+-- a record with a block in place of the n words of each half
+unfoldable pub laid : ℕ → Block → Halves → Halves
+laid n s h = record { high = s .0 ++ drop n (h .high); low = s .1 ++ drop n (h .low) }
 
 -- n is legal, and a buffer has a block's length
 unfoldable pub fits : ℕ → List ℕ → Bool
 fits n buffer = legal n && eqb (length buffer) (16 * n)
-
--- the new content where the test holds, else the old
-unfoldable pub choose : Bool → List ℕ → List ℕ → List ℕ
-choose true new old = new
-choose false new old = old
 
 -- the subkey numbers in the order of their use, enciphering (false) and deciphering (true)
 unfoldable pub useOrder : Bool → List ℕ
