@@ -8,6 +8,10 @@ use mathlib.Core.List.{List, [], _∷_, _++_, reverse}
 use lib.Dec.{eqb, ltb}
 use lib.ListN.{getD, length, take, drop, replicate}
 use Rattle.field.specs.Lists.{tabulate, pick}
+use Rattle.field.specs.Words.{eachByte}
+use Rattle.field.specs.Substitution.{sub}
+use Rattle.field.specs.Mixing.{mixBy}
+use Rattle.field.specs.Merged.{lookup}
 use Rattle.labyrinth.specs.declared.Halves.{Halves}
 use Rattle.labyrinth.specs.Blocks.{Block, load, store}
 use Rattle.labyrinth.specs.Cipher.{Parts, EF}
@@ -66,3 +70,11 @@ line p n ks s = EF p n (half n ks 1, half n ks 0) (λ i. half n ks (i + 2)) (hal
 -- the block map of a schedule, on bytes
 unfoldable pub lineBytes : Parts → ℕ → List ℕ → List ℕ → List ℕ
 lineBytes p n ks b = store n (line p n ks (load n b))
+
+-- the parts by tables: a substitution, its inverse and a merged table
+unfoldable pub tableParts : List ℕ → List ℕ → List ℕ → Parts
+tableParts s u t = record { S = sub s; S⁻¹ = sub u; SM = lookup t }
+
+-- the parts by a matrix: a substitution, its inverse and a matrix of eight rows
+unfoldable pub matrixParts : List ℕ → List ℕ → List (List ℕ) → Parts
+matrixParts s u m = record { S = sub s; S⁻¹ = sub u; SM = λ w. mixBy m (eachByte (sub s) w) }

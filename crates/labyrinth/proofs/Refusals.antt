@@ -1,0 +1,60 @@
+-- What the refusals say in plain terms: when each number is 0.
+-- Assumes nothing.
+use mathlib.Core.Path.{_≡_, refl, sym, ap, _∙_}
+use mathlib.Core.Bool.{Bool, true, false, _||_, false≢true}
+use mathlib.Core.Logic.{_⊎_, inl, inr, ⊎-map, _↔_}
+use Prim.Native.Nat.{ℕ, zero, suc, _+_, _*_, _≤_, _<_}
+use native.Mathlib.Omega.{arith}
+use borrow.Author.Tests.{eq-eqb, eqb-true}
+use lib.Dec.{eqb}
+use Rattle.labyrinth.specs.Refusals.{unless, legal, legalLength, blockRefusal, expandRefusal}
+
+-- a check with a number passes, and so do those after it
+pub unless-zero : (b : Bool) (k r : ℕ) → unless b (suc k) r ≡ 0 → (b ≡ true) × (r ≡ 0)
+unless-zero true k r e = (refl, e)
+unless-zero false k r e = let z : ⊥ = omega arith in absurd z
+
+or-true : (a b : Bool) → (a || b) ≡ true → (a ≡ true) ⊎ (b ≡ true)
+or-true true b e = inl refl
+or-true false b e = inr e
+
+true-or : (a b : Bool) → (a ≡ true) ⊎ (b ≡ true) → (a || b) ≡ true
+true-or true b e = refl
+true-or false b (inl e) = absurd (false≢true e)
+true-or false b (inr e) = e
+
+-- n is one of three numbers
+abbrev pub OneOf : ℕ → ℕ → ℕ → ℕ → Type 0
+OneOf a b c n = (n ≡ a) ⊎ ((n ≡ b) ⊎ (n ≡ c))
+
+one-of : (a b c n : ℕ) → ((eqb n a || (eqb n b || eqb n c)) ≡ true) ↔ OneOf a b c n
+one-of a b c n = (
+  λ e. ⊎-map (eqb-true n a) (λ r. ⊎-map (eqb-true n b) (eqb-true n c) (or-true (eqb n b) (eqb n c) r)) (or-true (eqb n a) (eqb n b || eqb n c) e),
+  λ o. true-or (eqb n a) (eqb n b || eqb n c) (⊎-map (eq-eqb n a) (λ r. true-or (eqb n b) (eqb n c) (⊎-map (eq-eqb n b) (eq-eqb n c) r)) o),
+)
+
+pub legal-iff : (n : ℕ) → (legal n ≡ true) ↔ OneOf 1 2 4 n
+unfolding legal
+legal-iff n = one-of 1 2 4 n
+
+pub legalLength-iff : (l : ℕ) → (legalLength l ≡ true) ↔ OneOf 2 3 4 l
+unfolding legalLength
+legalLength-iff l = one-of 2 3 4 l
+
+-- a block is taken exactly when n is 1, 2 or 4, the source has 16n bytes and so has the destination
+pub block-iff : (n s d : ℕ) → (blockRefusal n s d ≡ 0) ↔ (OneOf 1 2 4 n × (s ≡ 16 * n) × (d ≡ 16 * n))
+unfolding blockRefusal
+block-iff n s d = (
+  λ e. let a = unless-zero (legal n) 0 _ e in let b = unless-zero (eqb s (16 * n)) 3 _ (a .1) in let c = unless-zero (eqb d (16 * n)) 4 0 (b .1) in
+      (legal-iff n .0 (a .0), eqb-true s (16 * n) (b .0), eqb-true d (16 * n) (c .0)),
+  λ h. rw (legal-iff n .1 (h .0), eq-eqb s (16 * n) (h .1), eq-eqb d (16 * n) (h .2)),
+)
+
+-- a key is taken exactly when n is 1, 2 or 4, l is 2, 3 or 4, and the key has 8nl bytes
+pub expand-iff : (n l k : ℕ) → (expandRefusal n l k ≡ 0) ↔ (OneOf 1 2 4 n × OneOf 2 3 4 l × (k ≡ 8 * (n * l)))
+unfolding expandRefusal
+expand-iff n l k = (
+  λ e. let a = unless-zero (legal n) 0 _ e in let b = unless-zero (legalLength l) 1 _ (a .1) in let c = unless-zero (eqb k (8 * (n * l))) 2 0 (b .1) in
+      (legal-iff n .0 (a .0), legalLength-iff l .0 (b .0), eqb-true k (8 * (n * l)) (c .0)),
+  λ h. rw (legal-iff n .1 (h .0), legalLength-iff l .1 (h .1), eq-eqb k (8 * (n * l)) (h .2)),
+)
