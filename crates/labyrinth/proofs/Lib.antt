@@ -1,6 +1,12 @@
 pub mod Sizes
 pub mod Blocks
+pub mod Room
+pub mod Buffers
+pub mod Permutation
+pub mod Rounds
 pub mod Undo
 pub mod Agree
 pub mod Refusals
+pub mod Ends
 pub mod Schedule
+pub mod Expansion

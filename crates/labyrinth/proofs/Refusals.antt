@@ -2,11 +2,13 @@
 -- Assumes nothing.
 use mathlib.Core.Path.{_≡_, refl, sym, ap, _∙_}
 use mathlib.Core.Bool.{Bool, true, false, _||_, false≢true}
-use mathlib.Core.Logic.{_⊎_, inl, inr, ⊎-map, _↔_}
+use mathlib.Core.Logic.{_⊎_, inl, inr, ⊎-elim, ⊎-map, _↔_}
 use Prim.Native.Nat.{ℕ, zero, suc, _+_, _*_, _≤_, _<_}
 use native.Mathlib.Omega.{arith}
-use borrow.Author.Tests.{eq-eqb, eqb-true}
+use borrow.Author.Tests.{eq-eqb, ne-eqb, eqb-true}
 use lib.Dec.{eqb}
+use Rattle.labyrinth.specs.Working.{Size}
+use Rattle.labyrinth.proofs.Sizes.{size-one, size-two, size-four}
 use Rattle.labyrinth.specs.Refusals.{unless, legal, legalLength, blockRefusal, expandRefusal}
 
 -- a check with a number passes, and so do those after it
@@ -41,6 +43,26 @@ pub legalLength-iff : (l : ℕ) → (legalLength l ≡ true) ↔ OneOf 2 3 4 l
 unfolding legalLength
 legalLength-iff l = one-of 2 3 4 l
 
+pub legal-size-of : (n : ℕ) → legal n ≡ true → Size n
+legal-size-of n e = ⊎-elim (λ p. rw p size-one) (λ r. ⊎-elim (λ p. rw p size-two) (λ p. rw p size-four) r) (legal-iff n .0 e)
+
+pub legalLength-low : (l : ℕ) → legalLength l ≡ true → 2 ≤ l
+legalLength-low l e = ⊎-elim (λ (p : l ≡ 2). omega arith) (λ r. ⊎-elim (λ (p : l ≡ 3). omega arith) (λ (p : l ≡ 4). omega arith) r) (legalLength-iff l .0 e)
+
+pub legalLength-top : (l : ℕ) → legalLength l ≡ true → l ≤ 4
+legalLength-top l e = ⊎-elim (λ (p : l ≡ 2). omega arith) (λ r. ⊎-elim (λ (p : l ≡ 3). omega arith) (λ (p : l ≡ 4). omega arith) r) (legalLength-iff l .0 e)
+
+-- the tests one after another, as the code makes them
+module _ (a b c n : ℕ) where
+  pub first-of : n ≡ a → true ≡ (eqb n a || (eqb n b || eqb n c))
+  first-of e = rw (eq-eqb n a e)
+
+  pub second-of : (n ≡ a → ⊥) → n ≡ b → true ≡ (eqb n a || (eqb n b || eqb n c))
+  second-of p e = rw (ne-eqb n a p, eq-eqb n b e)
+
+  pub third-of : (n ≡ a → ⊥) → (n ≡ b → ⊥) → eqb n c ≡ (eqb n a || (eqb n b || eqb n c))
+  third-of p q = rw (ne-eqb n a p, ne-eqb n b q)
+
 -- a block is taken exactly when n is 1, 2 or 4, the source has 16n bytes and so has the destination
 pub block-iff : (n s d : ℕ) → (blockRefusal n s d ≡ 0) ↔ (OneOf 1 2 4 n × (s ≡ 16 * n) × (d ≡ 16 * n))
 unfolding blockRefusal
@@ -58,3 +80,20 @@ expand-iff n l k = (
       (legal-iff n .0 (a .0), legalLength-iff l .0 (b .0), eqb-true k (8 * (n * l)) (c .0)),
   λ h. rw (legal-iff n .1 (h .0), legalLength-iff l .1 (h .1), eq-eqb k (8 * (n * l)) (h .2)),
 )
+
+-- what a key that is taken has
+pub record Taken (n l k : ℕ) : Type 0 where
+  pub size : Size n
+  pub low : 2 ≤ l
+  pub top : l ≤ 4
+  pub len : k ≡ 8 * (n * l)
+
+pub key-taken : (n l k : ℕ) {r : ℕ} → r ≡ expandRefusal n l k → r ≡ 0 → Taken n l k
+key-taken n l k p e =
+    let h = expand-iff n l k .0 (sym p ∙ e) in
+    record {
+      size = legal-size-of n (legal-iff n .1 (h .0));
+      low = legalLength-low l (legalLength-iff l .1 (h .1));
+      top = legalLength-top l (legalLength-iff l .1 (h .1));
+      len = h .2;
+    }

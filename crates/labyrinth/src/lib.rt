@@ -1,4 +1,7 @@
-// The records of the cipher. Its definitions stand in specs/, its laws in proofs/.
+// The records of the cipher and its refusals. Its definitions stand in specs/, its laws in proofs/.
+
+ghost use mathlib.Core.Path.{_≡_};
+ghost use Rattle.labyrinth.specs.Refusals.{legal, legalLength, blockRefusal, expandRefusal};
 
 // A working key: half-block k_j, j = 0 to 7, is words jn to jn + n - 1. One made by hand is taken too;
 // its n is never adjusted.
@@ -17,4 +20,62 @@ pub struct Expanded {
 pub struct Halves {
     pub high: [u64; 4],
     pub low: [u64; 4],
+}
+
+// Whether n is 1, 2 or 4.
+pub fn is_legal(n: usize) -> bool
+    ensures { λ r. ⌜ r ≡ legal n ⌝ }
+{
+    if n == 1 {
+        return true;
+    }
+    if n == 2 {
+        return true;
+    }
+    n == 4
+}
+
+// Whether l is 2, 3 or 4.
+pub fn is_legal_length(l: usize) -> bool
+    ensures { λ r. ⌜ r ≡ legalLength l ⌝ }
+{
+    if l == 2 {
+        return true;
+    }
+    if l == 3 {
+        return true;
+    }
+    l == 4
+}
+
+// The number of a block operation, by n and the lengths of the source and the destination.
+pub fn block_refusal(n: usize, source: usize, destination: usize) -> u8
+    ensures { λ r. ⌜ r ≡ blockRefusal n source destination ⌝ }
+{
+    if !is_legal(n) {
+        return 1;
+    }
+    if source != 16 * n {
+        return 4;
+    }
+    if destination != 16 * n {
+        return 5;
+    }
+    0
+}
+
+// The number of an expansion, by n, l and the length of the key. No product is made before n and l are known to be small.
+pub fn expand_refusal(n: usize, l: usize, key: usize) -> u8
+    ensures { λ r. ⌜ r ≡ expandRefusal n l key ⌝ }
+{
+    if !is_legal(n) {
+        return 1;
+    }
+    if !is_legal_length(l) {
+        return 2;
+    }
+    if key != 8 * (n * l) {
+        return 3;
+    }
+    0
 }
