@@ -10,3 +10,4 @@ pub mod Refusals
 pub mod Ends
 pub mod Schedule
 pub mod Expansion
+pub mod Operations

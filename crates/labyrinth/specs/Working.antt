@@ -14,8 +14,8 @@ use Rattle.field.specs.Mixing.{mixBy}
 use Rattle.field.specs.Merged.{lookup}
 use Rattle.labyrinth.specs.declared.Halves.{Halves}
 use Rattle.labyrinth.specs.Blocks.{Block, load, store}
-use Rattle.labyrinth.specs.Cipher.{Parts, EF}
-use Rattle.labyrinth.specs.Keys.{half, order}
+use Rattle.labyrinth.specs.Cipher.{Parts, article, EF}
+use Rattle.labyrinth.specs.Keys.{half, order, E, U}
 use Rattle.labyrinth.specs.Refusals.{legal}
 
 -- n is 1, 2 or 4, in a form that arithmetic reads
@@ -78,3 +78,8 @@ tableParts s u t = record { S = sub s; S⁻¹ = sub u; SM = lookup t }
 -- the parts by a matrix: a substitution, its inverse and a matrix of eight rows
 unfoldable pub matrixParts : List ℕ → List ℕ → List (List ℕ) → Parts
 matrixParts s u m = record { S = sub s; S⁻¹ = sub u; SM = λ w. mixBy m (eachByte (sub s) w) }
+
+-- E (false) or U (true) of the article
+abbrev pub way : Bool → ℕ → List ℕ → List ℕ → List ℕ
+way false n ws b = E article n ws b
+way true n ws b = U article n ws b

@@ -1,0 +1,54 @@
+-- A refusal leaves the destination; else the three phases are the line.
+-- Assumes nothing.
+use mathlib.Core.Path.{_≡_, sym, _∙_}
+use Rattle.labyrinth.specs.Working.{tableParts}
+use Rattle.labyrinth.proofs.Operations.{block-taken, refused-keeps, phases}
+use borrow.Author.Needs.{needs}
+use Rattle.cipher.proofs.apply_tables.Statement.{statement}
+use Rattle.cipher.proofs.apply_tables.Tie as tie
+
+block-refusal-requires : tie.Need-block-refusal-requires
+block-refusal-requires c κs = search needs
+
+returns : tie.Need-returns
+returns c = (c .before .block-refusal .ensures, refused-keeps _ _ _ (c .if1 .taken))
+
+enter-requires : tie.Need-enter-requires
+enter-requires c κs = search needs
+
+rounds-requires : tie.Need-rounds-requires
+rounds-requires c κs = search needs
+
+exchange-requires : tie.Need-exchange-requires
+exchange-requires c κs = search needs
+
+leave-requires : tie.Need-leave-requires
+leave-requires c κs = search needs
+
+same-length : tie.Need-same-length
+same-length c = search needs
+
+returns-2 : tie.Need-returns-2
+unfolding tableParts
+returns-2 c =
+    let a = c .before .before .before .before .before .before .before .before .before .before .before .args in
+    let number = c .before .before .before .before .before .before .before .before .block-refusal .ensures in
+    let none = c .before .before .before .before .before .before .before .if1 .left in (
+      sym none ∙ number,
+      phases (tableParts (a .s .now) (a .u .now) (a .t .now)) (a .n) (a .ks .now) (a .src .now) (a .dst .now) (block-taken (a .n) _ _ number none)
+          (c .before .before .before .before .before .before .enter .ensures) (c .before .before .before .before .before .rounds .ensures)
+          (c .before .before .before .before .exchange .ensures) (c .before .before .leave .ensures),
+    )
+
+pub apply-tables-spec : {M : Type 1} → statement M
+apply-tables-spec =
+    tie.close
+    (tie.spec
+    block-refusal-requires
+    returns
+    enter-requires
+    rounds-requires
+    exchange-requires
+    leave-requires
+    same-length
+    returns-2)

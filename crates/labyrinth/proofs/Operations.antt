@@ -1,0 +1,133 @@
+-- The block operations' contracts: the three phases make the line, and the line by parts that agree with the article's is E or U.
+-- Assumes nothing.
+use mathlib.Core.Path.{_≡_, refl, sym, ap, ap₂, _∙_}
+use mathlib.Core.Bool.{Bool, true, false, _&&_}
+use mathlib.Core.List.{List, [], _∷_, _++_}
+use Prim.Native.Nat.{ℕ, zero, suc, _+_, _*_, _≤_, _<_}
+use native.Mathlib.Omega.{arith}
+use borrow.Author.Tests.{eq-eqb}
+use lib.Bits.{bitXor}
+use lib.Dec.{eqb}
+use lib.ListN.{length, take, drop}
+use lib.Seq.{take-at}
+use Rattle.field.specs.Substitution.{invert}
+use Rattle.field.specs.Mixing.{matrix}
+use Rattle.field.specs.Merged.{merged}
+use Rattle.field.specs.Published.{table1, row}
+use Rattle.labyrinth.specs.declared.Halves.{Halves}
+use Rattle.labyrinth.specs.Blocks.{Block, load, store}
+use Rattle.labyrinth.specs.Cipher.{Parts, article, IMix, IT, FT, round, rounds, exchange, EF}
+use Rattle.labyrinth.specs.Keys.{half, E, U}
+use Rattle.labyrinth.specs.Refusals.{legal, blockRefusal, outcome}
+use Rattle.labyrinth.specs.Working.{Size, choose, held, blockIn, laid, fits, schedule, line, lineBytes, tableParts, matrixParts, way}
+use Rattle.labyrinth.proofs.Sizes.{legal-size}
+use Rattle.labyrinth.proofs.Blocks.{length-zip, pair}
+use Rattle.labyrinth.proofs.Room.{take-room}
+use Rattle.labyrinth.proofs.Refusals.{block-iff, legal-iff, legal-size-of}
+use Rattle.labyrinth.proofs.Agree.{Agree, EF-agree, table-agrees, matrix-agrees}
+use Rattle.labyrinth.proofs.Schedule.{line-E, line-U}
+
+-- what a block that is taken has
+pub record Block-taken (n s d : ℕ) : Type 0 where
+  pub size : Size n
+  pub source : s ≡ 16 * n
+  pub destination : d ≡ 16 * n
+
+pub block-taken : (n s d : ℕ) {r : ℕ} → r ≡ blockRefusal n s d → r ≡ 0 → Block-taken n s d
+block-taken n s d p e =
+    let h = block-iff n s d .0 (sym p ∙ e) in
+    record { size = legal-size-of n (legal-iff n .1 (h .0)); source = h .1; destination = h .2 }
+
+-- a result matters only where the number is 0
+pub outcome-cong : (r : ℕ) (x y old : List ℕ) → (r ≡ 0 → x ≡ y) → outcome r x old ≡ outcome r y old
+outcome-cong zero x y old h = h refl
+outcome-cong (suc r) x y old h = refl
+
+pub refused-keeps : (r : ℕ) (x old : List ℕ) → (r ≡ 0 → ⊥) → old ≡ outcome r x old
+refused-keeps zero x old h = absurd (h refl)
+refused-keeps (suc r) x old h = refl
+
+-- a schedule's line by parts that agree with the article's is E or U
+pub line-way : (p : Parts) → Agree p article → (back : Bool) (n : ℕ) → Size n → (ws b : List ℕ) → lineBytes p n (schedule n ws back) b ≡ way back n ws b
+unfolding lineBytes line
+line-way p h false n s ws b = ap (store n) (EF-agree p article h n _ _ _ (load n b)) ∙ line-E article n s ws b
+line-way p h true n s ws b = ap (store n) (EF-agree p article h n _ _ _ (load n b)) ∙ line-U article n s ws b
+
+-- an operation under the schedule of a working key
+pub by-way : (p : Parts) → Agree p article → (back : Bool) (n : ℕ) (ws src dst : List ℕ) {r : ℕ} {d : List ℕ} → r ≡ blockRefusal n (length src) (length dst)
+    → d ≡ outcome r (lineBytes p n (schedule n ws back) src) dst → d ≡ outcome r (way back n ws src) dst
+by-way p h back n ws src dst {r} e q =
+    q ∙ outcome-cong r (lineBytes p n (schedule n ws back) src) (way back n ws src) dst
+    (λ z. line-way p h back n (block-taken n (length src) (length dst) e z .size) ws src)
+
+-- ---- the three phases
+
+pair-lengths : ℕ → Block → Type 0
+pair-lengths n s = (length (s .0) ≡ n) × (length (s .1) ≡ n)
+
+length-IT : (S : ℕ → ℕ) (n : ℕ) (k s : Block) → pair-lengths n (IT S n k s)
+unfolding IT IMix pair-lengths
+length-IT S n k s = (length-zip n bitXor _ _, length-zip n bitXor _ _)
+
+length-rounds : (SM : ℕ → ℕ) (n : ℕ) (K : ℕ → List ℕ) (m : ℕ) (s : Block) → pair-lengths n s → pair-lengths n (rounds SM n K m s)
+unfolding rounds round pair-lengths
+length-rounds SM n K zero s e = e
+length-rounds SM n K (suc m) s e = (length-rounds SM n K m s e .1, length-zip n bitXor _ _)
+
+blockIn-held : (n : ℕ) (s : Block) → n ≤ 4 → pair-lengths n s → blockIn n (held s) ≡ s
+unfolding blockIn held pair-lengths
+blockIn-held n s h e = pair (take-room n (s .0) (e .0) h) (take-room n (s .1) (e .1) h)
+
+blockIn-laid : (n : ℕ) (s : Block) (h : Halves) → pair-lengths n s → blockIn n (laid n s h) ≡ s
+unfolding blockIn laid pair-lengths
+blockIn-laid n s h e = pair (take-at (s .0) (drop n (h .high)) n (e .0)) (take-at (s .1) (drop n (h .low)) n (e .1))
+
+fits-taken : (n : ℕ) (buffer : List ℕ) → Size n → length buffer ≡ 16 * n → fits n buffer ≡ true
+unfolding fits
+fits-taken n buffer s e = rw (legal-size n s, eq-eqb (length buffer) (16 * n) e)
+
+-- IT from the source, the rounds, the exchange and FT to the destination are the line
+pub phases : (p : Parts) (n : ℕ) (ks src dst : List ℕ) {h h′ h″ : Halves} {d : List ℕ} → Block-taken n (length src) (length dst)
+    → h ≡ held (choose (fits n src) (IT (p .S) n (half n ks 1, half n ks 0) (load n src)) ([], []))
+    → h′ ≡ choose (legal n) (laid n (rounds (p .SM) n (λ i. half n ks (i + 2)) 16 (blockIn n h)) h) h
+    → h″ ≡ record { high = h′ .low; low = h′ .high }
+    → d ≡ choose (fits n dst) (store n (FT (p .S⁻¹) n (half n ks 19, half n ks 18) (blockIn n h″))) dst
+    → d ≡ lineBytes p n ks src
+unfolding choose lineBytes line EF blockIn
+phases p n ks src dst {h} {h′} {h″} {d} t e₁ e₂ e₃ e₄ =
+    e₄ ∙ ap (λ (b : Bool). choose b (store n (FT (p .S⁻¹) n (half n ks 19, half n ks 18) (blockIn n h″))) dst) (fits-taken n dst (t .size) (t .destination))
+    ∙ ap (λ (z : Block). store n (FT (p .S⁻¹) n (half n ks 19, half n ks 18) z)) (ap (blockIn n) e₃ ∙ ap exchange after)
+  where
+    first : Block
+    first = IT (p .S) n (half n ks 1, half n ks 0) (load n src)
+
+    entered : blockIn n h ≡ first
+    entered =
+        ap (blockIn n) (e₁ ∙ ap (λ (b : Bool). held (choose b first ([], []))) (fits-taken n src (t .size) (t .source)))
+        ∙ blockIn-held n first (t .size .top) (length-IT (p .S) n (half n ks 1, half n ks 0) (load n src))
+
+    sixteen : Block → Block
+    sixteen s = rounds (p .SM) n (λ i. half n ks (i + 2)) 16 s
+
+    after : blockIn n h′ ≡ sixteen first
+    after =
+        ap (blockIn n) (e₂ ∙ ap (λ (b : Bool). choose b (laid n (sixteen (blockIn n h)) h) h) (legal-size n (t .size)) ∙ ap (λ (z : Block). laid n (sixteen z) h) entered)
+        ∙ blockIn-laid n (sixteen first) h (length-rounds (p .SM) n (λ i. half n ks (i + 2)) 16 first (length-IT (p .S) n (half n ks 1, half n ks 0) (load n src)))
+
+-- ---- with what the tables hand out
+
+pub table-way : (back : Bool) (n : ℕ) (ws src dst : List ℕ) {s u t ks d : List ℕ} {r : ℕ} → s ≡ table1 → u ≡ invert table1 → t ≡ merged row table1
+    → ks ≡ schedule n ws back → r ≡ blockRefusal n (length src) (length dst) → d ≡ outcome r (lineBytes (tableParts s u t) n ks src) dst
+    → d ≡ outcome r (way back n ws src) dst
+table-way back n ws src dst {s} {u} {t} {ks} {d} {r} es eu et ek e q =
+    by-way (tableParts table1 (invert table1) (merged row table1)) table-agrees back n ws src dst e
+    (q ∙ ap₂ (λ (x y : List ℕ). outcome r (lineBytes (tableParts x y t) n ks src) dst) es eu
+    ∙ ap₂ (λ (x y : List ℕ). outcome r (lineBytes (tableParts table1 (invert table1) x) n y src) dst) et ek)
+
+pub matrix-way : (back : Bool) (n : ℕ) (ws src dst : List ℕ) {s u ks d : List ℕ} {m : List (List ℕ)} {r : ℕ} → s ≡ table1 → u ≡ invert table1 → m ≡ matrix row
+    → ks ≡ schedule n ws back → r ≡ blockRefusal n (length src) (length dst) → d ≡ outcome r (lineBytes (matrixParts s u m) n ks src) dst
+    → d ≡ outcome r (way back n ws src) dst
+matrix-way back n ws src dst {s} {u} {ks} {d} {m} {r} es eu em ek e q =
+    by-way (matrixParts table1 (invert table1) (matrix row)) matrix-agrees back n ws src dst e
+    (q ∙ ap₂ (λ (x y : List ℕ). outcome r (lineBytes (matrixParts x y m) n ks src) dst) es eu
+    ∙ ap₂ (λ (x : List (List ℕ)) (y : List ℕ). outcome r (lineBytes (matrixParts table1 (invert table1) x) n y src) dst) em ek)
