@@ -1,10 +1,11 @@
 #!/usr/bin/env python3
-"""Writes what a program of ours must print, made from the archivists' program and vectors alone.
+"""Writes what a program of ours reads and must print, made from the archivists' program and vectors alone, and for refusals from
+document 01's numbers.
 
-    tests/expected.py NAME          the expected output of crates/NAME, to standard output
-    tests/expected.py --all DIR     each of them to DIR/NAME
+    tests/expected.py --all DIR     for each program NAME its input, if it has one, to DIR/NAME.stdin and its output to DIR/NAME.stdout
     tests/expected.py --list        NAME and the count of its cases, a line each
 """
+import json
 import os
 import sys
 
@@ -20,28 +21,95 @@ def print_tables():
         yield f"{b:02x} {labyrinth.S[b]:02x} {labyrinth.S_INV[b]:02x} {merged:016x} {labyrinth.cmbn_poly(b):016x}\n"
 
 
-# name: (the maker of the lines, how many cases)
-PROGRAMS = {"print_tables": (print_tables, 256)}
+def vectors(kind, count):
+    path = os.path.join(os.path.dirname(os.path.abspath(__file__)), "archivists", "vectors.json")
+    with open(path) as file:
+        found = json.load(file)[kind]
+    if len(found) != count:
+        raise SystemExit(f"expected.py: {len(found)} vectors of the kind {kind}, not {count}")
+    return found
 
 
-def text(name):
-    lines, cases = PROGRAMS[name]
-    made = list(lines())
-    if len(made) != cases:
-        raise SystemExit(f"expected.py: {name}: {len(made)} cases, not {cases}")
-    return "".join(made)
+def block_vectors_input():
+    """Cases of 258 bytes: n, l, the key in 128 bytes, the block to encipher and the block to decipher in 64 each."""
+    for v in vectors("block", 225):
+        key, plain, sealed = (bytes.fromhex(v[name]) for name in ("key", "pt", "ct"))
+        yield bytes([v["n"], v["l"]]) + key.ljust(128, b"\0") + plain.ljust(64, b"\0") + sealed.ljust(64, b"\0")
+
+
+def block_vectors():
+    """For each case the expansion with all 32 words, then both engines enciphering and deciphering."""
+    for v in vectors("block", 225):
+        yield (
+            f"expand 0 {v['expanded'].ljust(512, '0')}\n"
+            f"encipher table 0 {v['ct']}\nencipher matrix 0 {v['ct']}\n"
+            f"decipher table 0 {v['pt']}\ndecipher matrix 0 {v['pt']}\n"
+        )
+
+
+LARGE = (1 << 64) - 1
+# document 01's operations: expansion of n, l and a key's length; block operations under a key made by hand, with the lengths of the
+# source and the destination
+EXPANSIONS = [
+    (0, 2, 16), (3, 2, 48), (8, 2, 128), (3, 9, 0), (LARGE, 2, 16), (1 << 62, 4, 0), (0, 0, 0),
+    (1, 1, 8), (1, 5, 40), (2, 0, 0), (4, LARGE, 0), (1, 1 << 61, 0),
+    (1, 2, 15), (1, 2, 17), (1, 2, 0), (2, 3, 24), (4, 4, 64), (4, 4, 127),
+    (1, 2, 16), (1, 3, 24), (1, 4, 32), (2, 2, 32), (2, 3, 48), (2, 4, 64), (4, 2, 64), (4, 3, 96), (4, 4, 128),
+]
+BLOCKS = [
+    (0, 0, 0), (3, 48, 48), (8, 128, 128), (LARGE, 16, 16), (3, 0, 5),
+    (1, 15, 16), (1, 17, 16), (1, 0, 16), (2, 16, 32), (4, 32, 64), (1, 15, 15),
+    (1, 16, 15), (1, 16, 17), (1, 16, 0), (2, 32, 16), (4, 64, 63),
+    (1, 16, 16), (2, 32, 32), (4, 64, 64),
+]
+OPERATIONS = ["encipher table", "encipher matrix", "decipher table", "decipher matrix"]
+
+
+def refusals_input():
+    """Cases of 21 bytes: the operation (0 expands), n and l or 0 in 8 bytes each, two lengths in 2 bytes each, lowest byte first."""
+    def case(op, n, l, a, b):
+        return bytes([op]) + n.to_bytes(8, "little") + l.to_bytes(8, "little") + a.to_bytes(2, "little") + b.to_bytes(2, "little")
+
+    for n, l, key in EXPANSIONS:
+        yield case(0, n, l, key, 0)
+    for op in range(4):
+        for n, source, destination in BLOCKS:
+            yield case(1 + op, n, 0, source, destination)
+
+
+def refusals():
+    """The number by document 01's order of checks; of a refusal, that the returned key is all zeros or the destination as it was."""
+    for n, l, key in EXPANSIONS:
+        number = 1 if n not in (1, 2, 4) else 2 if l not in (2, 3, 4) else 3 if key != 8 * n * l else 0
+        yield f"expand {number} {'zeros' if number else 'made'}\n"
+    for op in OPERATIONS:
+        for n, source, destination in BLOCKS:
+            number = 1 if n not in (1, 2, 4) else 4 if source != 16 * n else 5 if destination != 16 * n else 0
+            yield f"{op} {number} {'same' if number else 'made'}\n"
+
+
+# name: (the maker of the input, the maker of the output, how many cases)
+PROGRAMS = {
+    "print_tables": (None, print_tables, 256),
+    "block_vectors": (block_vectors_input, block_vectors, 225),
+    "refusals": (refusals_input, refusals, len(EXPANSIONS) + 4 * len(BLOCKS)),
+}
 
 
 def main(words):
     if words == ["--list"]:
-        for name, (_, cases) in PROGRAMS.items():
+        for name, (_, _, cases) in PROGRAMS.items():
             print(name, cases)
     elif len(words) == 2 and words[0] == "--all":
-        for name in PROGRAMS:
-            with open(os.path.join(words[1], name), "w") as out:
-                out.write(text(name))
-    elif len(words) == 1 and words[0] in PROGRAMS:
-        sys.stdout.write(text(words[0]))
+        for name, (given, printed, cases) in PROGRAMS.items():
+            output = list(printed())
+            if len(output) != cases:
+                raise SystemExit(f"expected.py: {name}: {len(output)} cases, not {cases}")
+            with open(os.path.join(words[1], name + ".stdout"), "w") as out:
+                out.write("".join(output))
+            if given:
+                with open(os.path.join(words[1], name + ".stdin"), "wb") as out:
+                    out.write(b"".join(given()))
     else:
         raise SystemExit(__doc__)
 

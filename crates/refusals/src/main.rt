@@ -1,0 +1,148 @@
+// Prints how operations answer to bad and good arguments. Standard input has cases of 21 bytes: the operation, n and l in 8 bytes
+// each and two lengths in 2 bytes each, lowest byte first. For each case a line: the operation, its number, and whether the key
+// returned is all zeros ('zeros'), the destination is as it was ('same'), or something was made ('made').
+use labyrinth::WorkingKey;
+use libc::STDIN_FILENO;
+use libc::STDOUT_FILENO;
+ghost use mathlib.Core.Path.{_≡_};
+ghost use Prim.Native.Nat.{_≤_, _<_};
+ghost use lib.ListN.{length};
+
+fn wide(b: u8) -> u64 {
+    b as u64
+}
+
+// The number of eight bytes, lowest first; 0 where they are not there.
+fn number_at(s: &[u8], at: usize) -> u64 {
+    let mut r = 0u64;
+    let mut i = 8usize;
+    while 0 < i {
+        i -= 1;
+        r = (r << 8) | byte(s, at, i);
+    }
+    r
+}
+
+// Byte i from a place on, or 0.
+fn byte(s: &[u8], at: usize, i: usize) -> u64 {
+    if at < s.len() {
+        if i < s.len() - at {
+            return wide(s[at + i]);
+        }
+    }
+    0
+}
+
+// A length of two bytes, at most 255.
+fn length_at(s: &[u8], at: usize) -> usize
+    ensures { λ r. ⌜ r < 256 ⌝ }
+{
+    (byte(s, at, 0) % 256) as usize
+}
+
+fn print_line(name: &[u8], number: u8, untouched: bool, word: &[u8]) {
+    io::write_all(STDOUT_FILENO, name);
+    io::print_decimal(STDOUT_FILENO, number as u64);
+    if untouched {
+        io::write_all(STDOUT_FILENO, word);
+    } else {
+        io::write_all(STDOUT_FILENO, b" made\n");
+    }
+}
+
+// Whether a working key is n = 0 and all words zero.
+fn is_blank(k: WorkingKey) -> bool {
+    let words = k.words;
+    let mut sum = k.n as u64;
+    let mut i = 0usize;
+    while i < 32 {
+        sum = sum | words[i];
+        i += 1;
+    }
+    sum == 0
+}
+
+fn expand_case(n: usize, l: usize, key: &[u8]) {
+    let e = expansion::expand(n, l, key);
+    let number = e.number;
+    let k = e.key;
+    print_line(b"expand ", number, is_blank(k), b" zeros\n");
+}
+
+// Whether every byte is 90.
+fn is_same(s: &[u8]) -> bool {
+    let mut i = 0usize;
+    while i < s.len() {
+        if s[i] != 90 {
+            return false;
+        }
+        i += 1;
+    }
+    true
+}
+
+fn block_case(op: u8, k: WorkingKey, src: &[u8], dst: &mut [u8]) {
+    if op == 1 {
+        let number = cipher::encipher_by_table(k, src, dst);
+        print_line(b"encipher table ", number, is_same(dst), b" same\n");
+    } else if op == 2 {
+        let number = cipher::encipher_by_matrix(k, src, dst);
+        print_line(b"encipher matrix ", number, is_same(dst), b" same\n");
+    } else if op == 3 {
+        let number = cipher::decipher_by_table(k, src, dst);
+        print_line(b"decipher table ", number, is_same(dst), b" same\n");
+    } else {
+        let number = cipher::decipher_by_matrix(k, src, dst);
+        print_line(b"decipher matrix ", number, is_same(dst), b" same\n");
+    }
+}
+
+// The front of a buffer.
+fn front(s: &[u8], count: usize) -> &[u8] {
+    if count <= s.len() { &s[..count] } else { s }
+}
+
+fn front_mut(s: &mut [u8], count: usize) -> &mut [u8] {
+    if count <= s.len() { &mut s[..count] } else { s }
+}
+
+fn take_case(case: &[u8]) {
+    let op = (byte(case, 0, 0) % 256) as u8;
+    let n = number_at(case, 1) as usize;
+    let l = number_at(case, 9) as usize;
+    let src = [165u8; 256];
+    let mut room = [90u8; 256];
+    let given = front(&src, length_at(case, 17));
+    if op == 0 {
+        expand_case(n, l, given);
+    } else {
+        let k = WorkingKey {
+            n: n,
+            words: [0x0123456789ABCDEF; 32],
+        };
+        block_case(op, k, given, front_mut(&mut room, length_at(case, 19)));
+    }
+}
+
+// Reads a case and prints its line, if there is one.
+fn read_case() -> bool {
+    let mut space = [0u8; 21];
+    let case: &mut [u8] = &mut space;
+    let got = io::read_full(STDIN_FILENO, case);
+    if got != 21 {
+        return false;
+    }
+    take_case(case);
+    true
+}
+
+// No more than a thousand cases are taken.
+fn main() {
+    let mut i = 0usize;
+    while i < 1000 {
+        if !read_case() {
+            return;
+        }
+        i += 1;
+    }
+}
