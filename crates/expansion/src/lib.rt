@@ -141,8 +141,14 @@ fn grow(t: &[u64; 256], n: usize, l: usize, key: [u64; 32]) -> [u64; 32]
     let mut j = l;
     while j < 8 {
         let stepped = step(n, g);
+        let y = table_rounds::iteration(
+            t,
+            n,
+            stepped,
+            half_of(n, &w, j - l),
+            half_of(n, &w, j - 1),
+        );
         g = stepped;
-        let y = table_rounds::iteration(t, n, g, half_of(n, &w, j - l), half_of(n, &w, j - 1));
         put(n, &mut w, j, &y);
         j += 1;
     }

@@ -18,18 +18,10 @@ use Rattle.labyrinth.specs.Blocks.{Block, plus, zip}
 use Rattle.labyrinth.specs.Cipher.{P, SL, F, round, rounds}
 use Rattle.labyrinth.specs.Keys.{half}
 use Rattle.labyrinth.specs.Refusals.{legal}
-use Rattle.labyrinth.specs.Working.{Size, wordsFrom, choose, blockIn, laid}
+use Rattle.labyrinth.specs.Working.{Size, wordsFrom, choose, blockIn, laid, both, onBlock}
 use Rattle.labyrinth.proofs.Sizes.{sizes, legal-size, illegal}
 use Rattle.labyrinth.proofs.Blocks.{length-zip}
 use Rattle.labyrinth.proofs.Permutation.{P-take}
-
--- two arrays as a record
-abbrev pub both : List ℕ → List ℕ → Halves
-both l r = record { high = l; low = r }
-
--- f at the block of n words a half
-unfoldable pub onBlock : ℕ → (Block → Block) → Halves → Halves
-onBlock n f h = laid n (f (blockIn n h)) h
 
 -- ---- an array whose first words a loop replaces
 

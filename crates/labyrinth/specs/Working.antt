@@ -49,6 +49,14 @@ blockIn n h = (take n (h .high), take n (h .low))
 unfoldable pub laid : ℕ → Block → Halves → Halves
 laid n s h = record { high = s .0 ++ drop n (h .high); low = s .1 ++ drop n (h .low) }
 
+-- the record of two arrays
+abbrev pub both : List ℕ → List ℕ → Halves
+both l r = record { high = l; low = r }
+
+-- f at the block of n words a half
+unfoldable pub onBlock : ℕ → (Block → Block) → Halves → Halves
+onBlock n f h = laid n (f (blockIn n h)) h
+
 -- n is legal, and a buffer has a block's length
 unfoldable pub fits : ℕ → List ℕ → Bool
 fits n buffer = legal n && eqb (length buffer) (16 * n)

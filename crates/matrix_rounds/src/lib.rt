@@ -11,7 +11,7 @@ ghost use Rattle.labyrinth.specs.Cipher.{P, round as once, rounds as iterations
 ghost use Rattle.labyrinth.specs.Keys.{half};
 ghost use Rattle.labyrinth.specs.Refusals.{legal};
 ghost use Rattle.labyrinth.specs.Working.{Size, wordsFrom, choose, blockIn, laid};
-ghost use Rattle.labyrinth.proofs.Rounds.{both, onBlock};
+ghost use Rattle.labyrinth.specs.Working.{both, onBlock};
 
 // n words, with the key words from a place on added.
 fn add_key(n: usize, x: &[u64; 4], ks: &[u64; 80], at: usize) -> [u64; 4]

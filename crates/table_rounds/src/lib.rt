@@ -17,7 +17,7 @@ ghost use Rattle.labyrinth.specs.Cipher.{P, F, round as once, rounds as iterati
 ghost use Rattle.labyrinth.specs.Keys.{half};
 ghost use Rattle.labyrinth.specs.Refusals.{legal};
 ghost use Rattle.labyrinth.specs.Working.{Size, wordsFrom, choose, blockIn, laid};
-ghost use Rattle.labyrinth.proofs.Rounds.{both, onBlock};
+ghost use Rattle.labyrinth.specs.Working.{both, onBlock};
 
 // Byte k of a word, as a place in a table.
 fn place(w: u64, k: usize) -> usize

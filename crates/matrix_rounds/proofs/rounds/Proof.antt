@@ -11,7 +11,8 @@ use Rattle.field.specs.Substitution.{sub}
 use Rattle.field.specs.Mixing.{mixBy}
 use Rattle.labyrinth.specs.Working.{Size}
 use Rattle.labyrinth.proofs.Sizes.{size-one, size-two, size-four}
-use Rattle.labyrinth.proofs.Rounds.{both, Ran, ran-none, ran-room, ran-more, ran-all, ran-legal, choose-illegal}
+use Rattle.labyrinth.specs.Working.{both}
+use Rattle.labyrinth.proofs.Rounds.{Ran, ran-none, ran-room, ran-more, ran-all, ran-legal, choose-illegal}
 use borrow.Author.Needs.{needs}
 use Rattle.matrix_rounds.proofs.rounds.Statement.{statement}
 use Rattle.matrix_rounds.proofs.rounds.Tie as tie

@@ -3,7 +3,8 @@
 use Prim.Native.Nat.{_-_, _*_}
 use native.Mathlib.Omega.{arith}
 use Rattle.field.specs.Merged.{lookup}
-use Rattle.labyrinth.proofs.Rounds.{both, Ran, ran-none, ran-room, ran-more, ran-all}
+use Rattle.labyrinth.specs.Working.{both}
+use Rattle.labyrinth.proofs.Rounds.{Ran, ran-none, ran-room, ran-more, ran-all}
 use borrow.Author.Needs.{needs}
 use Rattle.table_rounds.proofs.rounds_of.Statement.{statement}
 use Rattle.table_rounds.proofs.rounds_of.Tie as tie
