@@ -62,8 +62,8 @@ pub fn apply_matrix(
     if number != 0 {
         return number;
     }
-    let h = matrix_rounds::rounds(s, m, n, ks, transforms::enter(s, n, ks, src));
-    transforms::leave(u, n, ks, exchange(h), dst);
+    let x = matrix_rounds::rounds(s, m, n, ks, transforms::enter(s, n, ks, src));
+    transforms::leave(u, n, ks, exchange(x), dst);
     0
 }
 

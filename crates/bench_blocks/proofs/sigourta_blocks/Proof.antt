@@ -1,0 +1,57 @@
+-- A legal n has a size, and the lengths were compared.
+-- Assumes nothing.
+use mathlib.Core.Path.{sym, _∙_}
+use native.Mathlib.Omega.{arith}
+use borrow.Author.Tests.{not-false}
+use Rattle.labyrinth.proofs.Refusals.{legal-size-of}
+use borrow.Author.Needs.{needs}
+use Rattle.bench_blocks.proofs.sigourta_blocks.Statement.{statement}
+use Rattle.bench_blocks.proofs.sigourta_blocks.Tie as tie
+
+is-legal-requires : tie.Need-is-legal-requires
+is-legal-requires c κs = search needs
+
+returns : tie.Need-returns
+returns c = search needs
+
+returns-2 : tie.Need-returns-2
+returns-2 c = search needs
+
+merged-table-requires : tie.Need-merged-table-requires
+merged-table-requires c κs = search needs
+
+sbox-requires : tie.Need-sbox-requires
+sbox-requires c κs = search needs
+
+sbox-inverse-requires : tie.Need-sbox-inverse-requires
+sbox-inverse-requires c κs = search needs
+
+schedule-requires : tie.Need-schedule-requires
+schedule-requires c κs = search needs
+
+each-block-requires : tie.Need-each-block-requires
+each-block-requires c κs =
+    let d = c .before .before .before .before .before .before .before .before .before .before in
+    let legal = d .before .before .is-legal .ensures in
+    (legal-size-of (d .before .before .before .before .before .args .n) (sym legal ∙ not-false _ (d .before .if1 .left)), omega arith)
+
+same-length : tie.Need-same-length
+same-length c = search needs
+
+returns-3 : tie.Need-returns-3
+returns-3 c = search needs
+
+pub sigourta-blocks-spec : {M : Type 1} → statement M
+sigourta-blocks-spec =
+    tie.close
+    (tie.spec
+    is-legal-requires
+    returns
+    returns-2
+    merged-table-requires
+    sbox-requires
+    sbox-inverse-requires
+    schedule-requires
+    each-block-requires
+    same-length
+    returns-3)
