@@ -1,11 +1,11 @@
-# make run    the main job as far as it exists: prints the tables
+# make run    the main job as far as it exists: a key expanded, a block enciphered and deciphered, by table and by matrix
 # make test   the gate
 # make bench  times the proved code against C
 .PHONY: run test bench
 
 run:
-	rt check print_tables
-	target/bin/print_tables
+	rt check block_vectors
+	head -c 258 crates/block_vectors/stdin | target/bin/block_vectors
 
 test:
 	tests/gate.sh

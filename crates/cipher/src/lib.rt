@@ -1,7 +1,7 @@
 // Enciphering and deciphering a block, by the merged table and by the matrix, under a working key.
 //
-// `apply_tables` and `apply_matrix` map one block under a schedule, with the tables lent: what runs
-// over many blocks call. Their laws, and that the published tables give E and U, are labyrinth's.
+// `apply_tables` maps one block under a schedule, with the tables lent: what runs over many blocks
+// call. That the published tables give E and U is a law of labyrinth's, `tables-give`.
 use labyrinth::Halves;
 use labyrinth::WorkingKey;
 ghost use mathlib.Core.Path.{_≡_};
@@ -46,7 +46,7 @@ pub fn apply_tables(
 }
 
 // Maps a block under a schedule, by a substitution s, its inverse u and a matrix m.
-pub fn apply_matrix(
+fn apply_matrix(
     m: [[u8; 8]; 8],
     s: &[u8; 256],
     u: &[u8; 256],

@@ -21,10 +21,11 @@ use Rattle.labyrinth.specs.Keys.{half, E, U}
 use Rattle.labyrinth.specs.Refusals.{legal, blockRefusal, outcome}
 use Rattle.labyrinth.specs.Working.{Size, choose, held, blockIn, laid, fits, schedule, line, lineBytes, tableParts, matrixParts, way}
 use Rattle.labyrinth.proofs.Sizes.{legal-size}
-use Rattle.labyrinth.proofs.Blocks.{length-zip, pair}
+use Rattle.labyrinth.proofs.Blocks.{length-zip, pair, Bytes, Small}
+use Rattle.labyrinth.proofs.Undo.{U-E, E-U}
 use Rattle.labyrinth.proofs.Room.{take-room}
 use Rattle.labyrinth.proofs.Refusals.{block-iff, legal-iff, legal-size-of}
-use Rattle.labyrinth.proofs.Agree.{Agree, EF-agree, table-agrees, matrix-agrees}
+use Rattle.labyrinth.proofs.Agree.{Agree, EF-agree, article-sound, table-agrees, matrix-agrees}
 use Rattle.labyrinth.proofs.Schedule.{line-E, line-U}
 
 -- what a block that is taken has
@@ -131,3 +132,20 @@ matrix-way back n ws src dst {s} {u} {ks} {d} {m} {r} es eu em ek e q =
     by-way (matrixParts table1 (invert table1) (matrix row)) matrix-agrees back n ws src dst e
     (q ∙ ap₂ (λ (x y : List ℕ). outcome r (lineBytes (matrixParts x y m) n ks src) dst) es eu
     ∙ ap₂ (λ (x : List (List ℕ)) (y : List ℕ). outcome r (lineBytes (matrixParts table1 (invert table1) x) n y src) dst) em ek)
+
+-- ---- the article's cipher, closed
+
+-- the one law of the lent operation: with the tables that are handed out it gives E (false) and U (true)
+pub tables-give : (back : Bool) (n : ℕ) → Size n → (ws b : List ℕ) → lineBytes (tableParts table1 (invert table1) (merged row table1)) n (schedule n ws back) b ≡ way back n ws b
+tables-give = line-way (tableParts table1 (invert table1) (merged row table1)) table-agrees
+
+-- and so with the matrix
+pub matrix-gives : (back : Bool) (n : ℕ) → Size n → (ws b : List ℕ) → lineBytes (matrixParts table1 (invert table1) (matrix row)) n (schedule n ws back) b ≡ way back n ws b
+matrix-gives = line-way (matrixParts table1 (invert table1) (matrix row)) matrix-agrees
+
+-- E and U undo each other, both ways, on every block of 16n bytes, whatever words the working key holds
+pub article-U-E : (n : ℕ) (ws b : List ℕ) → Small ws → length b ≡ 16 * n → Bytes b → U article n ws (E article n ws b) ≡ b
+article-U-E = U-E article article-sound
+
+pub article-E-U : (n : ℕ) (ws b : List ℕ) → Small ws → length b ≡ 16 * n → Bytes b → E article n ws (U article n ws b) ≡ b
+article-E-U = E-U article article-sound

@@ -36,7 +36,7 @@ pub fn is_legal(n: usize) -> bool
 }
 
 // Whether l is 2, 3 or 4.
-pub fn is_legal_length(l: usize) -> bool
+fn is_legal_length(l: usize) -> bool
     ensures { λ r. ⌜ r ≡ legalLength l ⌝ }
 {
     if l == 2 {
