@@ -8,6 +8,7 @@ document 01's numbers.
 import json
 import os
 import sys
+from itertools import chain
 
 sys.dont_write_bytecode = True
 sys.path.insert(0, os.path.join(os.path.dirname(os.path.abspath(__file__)), "archivists"))
@@ -66,9 +67,10 @@ OPERATIONS = ["encipher table", "encipher matrix", "decipher table", "decipher m
 
 
 def refusals_input():
-    """Cases of 21 bytes: the operation (0 expands), n and l or 0 in 8 bytes each, two lengths in 2 bytes each, lowest byte first."""
+    """Cases of 258 bytes: 9, the operation (0 expands), n and l or 0 in 8 bytes each, two lengths in 2 bytes each, lowest byte first."""
     def case(op, n, l, a, b):
-        return bytes([op]) + n.to_bytes(8, "little") + l.to_bytes(8, "little") + a.to_bytes(2, "little") + b.to_bytes(2, "little")
+        given = bytes([9, op]) + n.to_bytes(8, "little") + l.to_bytes(8, "little") + a.to_bytes(2, "little") + b.to_bytes(2, "little")
+        return given.ljust(258, b"\0")
 
     for n, l, key in EXPANSIONS:
         yield case(0, n, l, key, 0)
@@ -91,8 +93,7 @@ def refusals():
 # name: (the maker of the input, the maker of the output, how many cases)
 PROGRAMS = {
     "print_tables": (None, print_tables, 256),
-    "block_vectors": (block_vectors_input, block_vectors, 225),
-    "refusals": (refusals_input, refusals, len(EXPANSIONS) + 4 * len(BLOCKS)),
+    "block_vectors": (lambda: chain(block_vectors_input(), refusals_input()), lambda: chain(block_vectors(), refusals()), 225 + 103),
 }
 
 

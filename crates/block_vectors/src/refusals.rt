@@ -1,8 +1,7 @@
-// Prints how operations answer to bad and good arguments. Standard input has cases of 21 bytes: the operation, n and l in 8 bytes
-// each and two lengths in 2 bytes each, lowest byte first. For each case a line: the operation, its number, and whether the key
-// returned is all zeros ('zeros'), the destination is as it was ('same'), or something was made ('made').
+// How operations answer to bad and good arguments. A case is the operation, n and l in 8 bytes each and two lengths in 2 bytes
+// each, lowest byte first. Its line: the operation, its number, and whether the key returned is all zeros ('zeros'), the
+// destination is as it was ('same'), or something was made ('made').
 use labyrinth::WorkingKey;
-use libc::STDIN_FILENO;
 use libc::STDOUT_FILENO;
 ghost use mathlib.Core.Path.{_≡_};
 ghost use Prim.Native.Nat.{_≤_, _<_};
@@ -106,7 +105,7 @@ fn front_mut(s: &mut [u8], count: usize) -> &mut [u8] {
     if count <= s.len() { &mut s[..count] } else { s }
 }
 
-fn take_case(case: &[u8]) {
+pub fn take_case(case: &[u8]) {
     let op = (byte(case, 0, 0) % 256) as u8;
     let n = number_at(case, 1) as usize;
     let l = number_at(case, 9) as usize;
@@ -121,28 +120,5 @@ fn take_case(case: &[u8]) {
             words: [0x0123456789ABCDEF; 32],
         };
         block_case(op, k, given, front_mut(&mut room, length_at(case, 19)));
-    }
-}
-
-// Reads a case and prints its line, if there is one.
-fn read_case() -> bool {
-    let mut space = [0u8; 21];
-    let case: &mut [u8] = &mut space;
-    let got = io::read_full(STDIN_FILENO, case);
-    if got != 21 {
-        return false;
-    }
-    take_case(case);
-    true
-}
-
-// No more than a thousand cases are taken.
-fn main() {
-    let mut i = 0usize;
-    while i < 1000 {
-        if !read_case() {
-            return;
-        }
-        i += 1;
     }
 }
