@@ -48,7 +48,7 @@ fn key_bytes(words: &[u64; 32]) -> [u8; 256]
     let mut r = [0u8; 256];
     let mut i = 0usize;
     while i < 256 {
-        r[i] = field::byte_at(words[i / 8], i % 8);
+        r[i] = arithmetic::byte_at(words[i / 8], i % 8);
         i += 1;
     }
     r

@@ -84,7 +84,7 @@ fn first_register(n: usize, l: usize, w: &[u64; 32]) -> [u64; 4]
     let mut g = [0u64; 4];
     let mut i = 0usize;
     while i < n {
-        g[i] = field::rotate_left(xor_column(n, l, w, i), 29);
+        g[i] = arithmetic::rotate_left(xor_column(n, l, w, i), 29);
         i += 1;
     }
     g

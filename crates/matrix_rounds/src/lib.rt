@@ -35,7 +35,7 @@ fn perm_word(n: usize, y: &[u64; 4], j: usize) -> u64
     let mut r = 0u64;
     let mut b = 0usize;
     while b < 8 {
-        let x = field::byte_at(y[(j + b) % n], b) as u64;
+        let x = arithmetic::byte_at(y[(j + b) % n], b) as u64;
         r = (x << (8 * b)) | r;
         b += 1;
     }

@@ -25,7 +25,7 @@ pub fn substitute_bytes(s: &[u8; 256], w: u64) -> u64
     let mut r = 0u64;
     let mut i = 0usize;
     while i < 8 {
-        let b = s[field::byte_at(w, i) as usize];
+        let b = s[arithmetic::byte_at(w, i) as usize];
         r = (wide(b) << (8 * i)) | r;
         i += 1;
     }
@@ -66,7 +66,7 @@ fn dot(row: [u8; 8], w: u64) -> u8
     let mut sum = 0u8;
     let mut j = 0usize;
     while j < 8 {
-        sum = sum ^ field::times(field::byte_at(w, j), row[j]);
+        sum = sum ^ arithmetic::times(arithmetic::byte_at(w, j), row[j]);
         j += 1;
     }
     sum
@@ -100,7 +100,7 @@ pub fn look_up(t: &[u64; 256], w: u64) -> u64
     let mut r = 0u64;
     let mut j = 0usize;
     while j < 8 {
-        r = r ^ field::rotate_left(t[field::byte_at(w, j) as usize], 8 * j);
+        r = r ^ arithmetic::rotate_left(t[arithmetic::byte_at(w, j) as usize], 8 * j);
         j += 1;
     }
     r

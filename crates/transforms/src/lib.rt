@@ -48,14 +48,14 @@ fn store_word(d: &mut [u8], at: usize, w: u64)
     requires { ⌜ at + 8 ≤ length (now d) ⌝ }
     ensures { λ _. ⌜ now (d .exit) ≡ take at (now (d .entry)) ++ (tabulate 8 (byte w) ++ drop (at + 8) (now (d .entry))) ⌝ }
 {
-    d[at] = field::byte_at(w, 0);
-    d[at + 1] = field::byte_at(w, 1);
-    d[at + 2] = field::byte_at(w, 2);
-    d[at + 3] = field::byte_at(w, 3);
-    d[at + 4] = field::byte_at(w, 4);
-    d[at + 5] = field::byte_at(w, 5);
-    d[at + 6] = field::byte_at(w, 6);
-    d[at + 7] = field::byte_at(w, 7);
+    d[at] = arithmetic::byte_at(w, 0);
+    d[at + 1] = arithmetic::byte_at(w, 1);
+    d[at + 2] = arithmetic::byte_at(w, 2);
+    d[at + 3] = arithmetic::byte_at(w, 3);
+    d[at + 4] = arithmetic::byte_at(w, 4);
+    d[at + 5] = arithmetic::byte_at(w, 5);
+    d[at + 6] = arithmetic::byte_at(w, 6);
+    d[at + 7] = arithmetic::byte_at(w, 7);
 }
 
 // ---- IMix
@@ -72,7 +72,7 @@ fn sigma(n: usize, l: [u64; 4], r: [u64; 4]) -> [u64; 4]
         j += 1;
     }
     let first = d[0];
-    d[0] = field::rotate_left(first, 28);
+    d[0] = arithmetic::rotate_left(first, 28);
     d
 }
 
@@ -113,7 +113,7 @@ fn key_in(
     let mut j = 0usize;
     while j < n {
         let w = std::num::wrapping_add_u64(load_word(src, at + 8 * j), ks[k + j]);
-        x[j] = field::rotate_left(mixing::substitute_bytes(s, w), turn);
+        x[j] = arithmetic::rotate_left(mixing::substitute_bytes(s, w), turn);
         j += 1;
     }
     x
@@ -194,7 +194,7 @@ fn key_out(
 {
     let mut j = 0usize;
     while j < n {
-        let w = mixing::substitute_bytes(u, field::rotate_left(x[j], turn));
+        let w = mixing::substitute_bytes(u, arithmetic::rotate_left(x[j], turn));
         store_word(dst, at + 8 * j, difference(w, ks[k + j]));
         j += 1;
     }

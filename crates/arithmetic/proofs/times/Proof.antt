@@ -4,15 +4,15 @@ use mathlib.Core.Path.{_≡_, refl, sym, ap, ap₂, _∙_}
 use Prim.Native.Nat.{ℕ, _≤_, _<_, _+_, _-_, _%_, _/_, _*_, _^_}
 use native.Mathlib.Nat.{mod-eq-of-lt}
 use native.Mathlib.Omega.{arith}
 use Rattle.field.specs.Lists.{xorSum}
 use Rattle.field.specs.Field.{mul, shift, timesX}
 use Rattle.field.proofs.Xor.{parity}
 use Rattle.field.proofs.Sums.{xorSum-next}
 use Rattle.field.proofs.Field.{digit-lt, timesX-lt}
 use Rattle.field.proofs.Forms.{shift-next, half-next, xorSum-end}
 use borrow.Author.Needs.{needs}
-use Rattle.field.proofs.times.Statement.{statement}
-use Rattle.field.proofs.times.Tie as tie
+use Rattle.arithmetic.proofs.times.Statement.{statement}
+use Rattle.arithmetic.proofs.times.Tie as tie
 
 abbrev Inv-loop : tie.InvT-loop
 Inv-loop a b product₀ x₀ y₀ k₀ product x y k = (k ≤ 8) × (x < 2 ^ 8) × (product ≡ xorSum k (λ i. b / 2 ^ i % 2 * shift a i)) × (x ≡ shift a k) × (y ≡ b / 2 ^ k)

@@ -1,11 +1,11 @@
 -- The two shifts meet where the word comes round.
 -- Assumes nothing.
 use Rattle.field.proofs.Forms.{rotl-code}
 use Prim.Native.Nat.{_%_}
 use native.Mathlib.Omega.{arith}
 use borrow.Author.Needs.{needs}
-use Rattle.field.proofs.rotate_left.Statement.{statement}
-use Rattle.field.proofs.rotate_left.Tie as tie
+use Rattle.arithmetic.proofs.rotate_left.Statement.{statement}
+use Rattle.arithmetic.proofs.rotate_left.Tie as tie
 
 shl-result : tie.Need-shl-result
 shl-result c = search needs

@@ -1,12 +1,12 @@
 -- The byte is the shifted word's remainder by 256; past the eighth there is nothing.
 -- Assumes nothing.
 use Rattle.field.specs.Words.{byte}
 use Rattle.field.proofs.Forms.{byte-past}
 use native.Mathlib.Omega.{arith}
 use mathlib.Core.Path.{refl}
 use borrow.Author.Needs.{needs}
-use Rattle.field.proofs.byte_at.Statement.{statement}
-use Rattle.field.proofs.byte_at.Tie as tie
+use Rattle.arithmetic.proofs.byte_at.Statement.{statement}
+use Rattle.arithmetic.proofs.byte_at.Tie as tie
 
 returns : tie.Need-returns
 returns c = byte-past (c .before .args .w) (c .before .args .i) (omega arith) (omega arith)

@@ -1,10 +1,10 @@
 -- By a test at the 256 bytes.
 -- Assumes nothing.
 use Rattle.field.proofs.Forms.{timesX-code}
 use native.Mathlib.Omega.{arith}
 use borrow.Author.Needs.{needs}
-use Rattle.field.proofs.times_x.Statement.{statement}
-use Rattle.field.proofs.times_x.Tie as tie
+use Rattle.arithmetic.proofs.times_x.Statement.{statement}
+use Rattle.arithmetic.proofs.times_x.Tie as tie
 
 mul-result : tie.Need-mul-result
 mul-result c = search needs
