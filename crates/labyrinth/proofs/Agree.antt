@@ -14,7 +14,7 @@ use Rattle.field.specs.Words.{rotl, rotr, eachByte}
 use Rattle.field.specs.Substitution.{sub, subInv, invert}
 use Rattle.field.specs.Mixing.{matrix, mixBy, mix}
 use Rattle.field.specs.Merged.{merged, lookup}
-use Rattle.field.specs.Published.{table1, row, constants}
+use Rattle.field.specs.Published.{table1, row}
 use Rattle.field.proofs.Tests.{at}
 use Rattle.field.proofs.Lists.{tabulate-cong}
 use Rattle.field.proofs.Words.{each-cong}
@@ -49,16 +49,19 @@ FT-cong f g h n k s = ap (λ (m : ℕ → ℕ). leave m n k (IMix n s)) (fun-ext
 pub P-small : (n : ℕ) (x : List ℕ) (t : ℕ) → getD (P n x) t 0 < 2 ^ 64
 unfolding P
 P-small n x t =
-    good-words n (tabulate (8 * n) (λ i. getD (bytes n x) (9 * i % (8 * n)) 0))
-    (tabulate-small (8 * n) (λ i. getD (bytes n x) (9 * i % (8 * n)) 0) (2 ^ 8) (omega arith) (λ i. bytes-small n x (9 * i % (8 * n)))) .small t
+    good-words n _ (tabulate-small (8 * n) _ (2 ^ 8) (omega arith) (λ i. bytes-small n x _)) .small t
+
+SL-cong : (f g : ℕ → ℕ) (t w : ℕ) → f w ≡ g w → SL f t w ≡ SL g t w
+unfolding SL
+SL-cong f g t w e = ap₂ bitXor e refl
 
 module _ (f g : ℕ → ℕ) (h : (w : ℕ) → w < 2 ^ 64 → f w ≡ g w) where
   pub F-cong : (n : ℕ) (k x : List ℕ) → F f n k x ≡ F g n k x
-  unfolding F SL
+  unfolding F
   F-cong n k x =
       let y : List ℕ = P n (zip n plus x k) in
-      tabulate-cong n (λ t. bitXor (f (getD y t 0)) (getD constants t 0)) (λ t. bitXor (g (getD y t 0)) (getD constants t 0))
-      (λ t l. ap (λ (w : ℕ). bitXor w (getD constants t 0)) (h (getD y t 0) (P-small n (zip n plus x k) t)))
+      tabulate-cong n (λ t. SL f t (getD y t 0)) (λ t. SL g t (getD y t 0))
+      (λ t l. SL-cong f g t (getD y t 0) (h (getD y t 0) (P-small n (zip n plus x k) t)))
 
   rounds-agree : (n : ℕ) (K : ℕ → List ℕ) (m : ℕ) (s : Block) → rounds f n K m s ≡ rounds g n K m s
   unfolding rounds round

@@ -227,7 +227,7 @@ rounds-cong SM n K K′ (suc m) s e = ap₂ (round SM n) (e m (omega arith)) (ro
 module _ (SM : ℕ → ℕ) (words : OnWords SM) (n : ℕ) where
   pub good-F : (k x : List ℕ) → Good n (F SM n k x)
   unfolding F SL
-  good-F k x = good-tabulate n _ (λ t. xor-lt 64 _ (getD constants t 0) (words _) (constant-lt t))
+  good-F k x = good-tabulate n _ (λ t. xor-lt 64 _ _ (words _) (constant-lt _))
 
   pub whole-round : (k : List ℕ) (s : Block) → Whole n s → Whole n (round SM n k s)
   unfolding round
