@@ -8,7 +8,6 @@ document 01's numbers.
 import json
 import os
 import sys
-from itertools import chain
 
 sys.dont_write_bytecode = True
 sys.path.insert(0, os.path.join(os.path.dirname(os.path.abspath(__file__)), "archivists"))
@@ -67,16 +66,15 @@ OPERATIONS = ["encipher table", "encipher matrix", "decipher table", "decipher m
 
 
 def refusals_input():
-    """Cases of 258 bytes: 9, the operation (0 expands), n and l or 0 in 8 bytes each, two lengths in 2 bytes each, lowest byte first."""
-    def case(op, n, l, a, b):
-        given = bytes([9, op]) + n.to_bytes(8, "little") + l.to_bytes(8, "little") + a.to_bytes(2, "little") + b.to_bytes(2, "little")
-        return given.ljust(258, b"\0")
+    """Cases of 23 bytes: the operation (0 expands), n and l or 0 in 8 bytes each, three lengths in 2 bytes each, lowest byte first."""
+    def case(op, n, l, *lengths):
+        return bytes([op]) + b"".join(x.to_bytes(8, "little") for x in (n, l)) + b"".join(x.to_bytes(2, "little") for x in lengths)
 
     for n, l, key in EXPANSIONS:
-        yield case(0, n, l, key, 0)
+        yield case(0, n, l, key, 0, 0)
     for op in range(4):
         for n, source, destination in BLOCKS:
-            yield case(1 + op, n, 0, source, destination)
+            yield case(1 + op, n, 0, source, destination, 0)
 
 
 def refusals():
@@ -93,7 +91,8 @@ def refusals():
 # name: (the maker of the input, the maker of the output, how many cases)
 PROGRAMS = {
     "print_tables": (None, print_tables, 256),
-    "block_vectors": (lambda: chain(block_vectors_input(), refusals_input()), lambda: chain(block_vectors(), refusals()), 225 + 103),
+    "block_vectors": (block_vectors_input, block_vectors, 225),
+    "refusals": (refusals_input, refusals, 103),
 }
 
 

@@ -14,6 +14,7 @@ UNFIT = (
     r"unexpected|expected an? |parse",
     r"has no field",
     r"mismatched types",
+    r"this pattern needs a function",
 )
 
 edits = sorted(glob.glob("crates/*/must-fail/*.edit"))

@@ -1,9 +1,6 @@
-// Prints the answers to block vectors and to refusals. Standard input has cases of 258 bytes. The first byte says how a case is
-// read: 9 is a refusal (refusals.rt). Else it is n, and l follows, 128 bytes of key (the first 8nl used), and two blocks of 64 bytes
-// (the first 16n used), one to encipher and one to decipher. For each such case five lines: the number of the expansion and all 32
-// words, then for each engine and direction the number and the block.
-mod refusals;
-
+// Prints the answers to block vectors. Standard input has cases of 258 bytes: n, l, 128 bytes of key (the first 8nl used), and two
+// blocks of 64 bytes (the first 16n used), one to encipher and one to decipher. For each case five lines: the number of the
+// expansion and all 32 words, then for each engine and direction the number and the block.
 use labyrinth::WorkingKey;
 use libc::STDIN_FILENO;
 use libc::STDOUT_FILENO;
@@ -59,11 +56,11 @@ fn apply(op: u8, k: WorkingKey, src: &[u8], dst: &mut [u8]) -> u8 {
     if op == 0 {
         cipher::encipher_by_table(k, src, dst)
     } else if op == 1 {
-        cipher::encipher_by_matrix(k, src, dst)
+        matrix_cipher::encipher_by_matrix(k, src, dst)
     } else if op == 2 {
         cipher::decipher_by_table(k, src, dst)
     } else {
-        cipher::decipher_by_matrix(k, src, dst)
+        matrix_cipher::decipher_by_matrix(k, src, dst)
     }
 }
 
@@ -119,10 +116,6 @@ fn key_length(n: usize, l: usize) -> usize
 // Takes a case apart.
 fn take_case(case: &[u8]) {
     if case.len() != 258 {
-        return;
-    }
-    if case[0] == 9 {
-        refusals::take_case(&case[1..]);
         return;
     }
     let n = size(case[0]);

@@ -1,27 +1,14 @@
-// Enciphering and deciphering a block, by the merged table and by the matrix, under a working key.
+// Enciphering and deciphering a block by the merged table, under a working key.
 //
 // `apply_tables` maps one block under a schedule, with the tables lent: what runs over many blocks
 // call. That the published tables give E and U is a law of labyrinth's, `tables-give`.
-use labyrinth::Halves;
 use labyrinth::WorkingKey;
 ghost use mathlib.Core.Path.{_≡_};
 ghost use lib.ListN.{length};
 ghost use Rattle.labyrinth.specs.Cipher.{article};
 ghost use Rattle.labyrinth.specs.Keys.{E, U};
 ghost use Rattle.labyrinth.specs.Refusals.{blockRefusal, outcome};
-ghost use Rattle.labyrinth.specs.Working.{tableParts, matrixParts, lineBytes, way};
-
-// The halves change places.
-fn exchange(h: Halves) -> Halves
-    ensures { λ r. ⌜ r ≡ record { high = h .low; low = h .high } ⌝ }
-{
-    let high = h.low;
-    let low = h.high;
-    Halves {
-        high: high,
-        low: low,
-    }
-}
+ghost use Rattle.labyrinth.specs.Working.{tableParts, lineBytes, way};
 
 // Maps a block under a schedule, by a substitution s, its inverse u and a merged table t, all lent.
 pub fn apply_tables(
@@ -41,29 +28,7 @@ pub fn apply_tables(
         return number;
     }
     let h = table_rounds::rounds(t, n, ks, transforms::enter(s, n, ks, src));
-    transforms::leave(u, n, ks, exchange(h), dst);
-    0
-}
-
-// Maps a block under a schedule, by a substitution s, its inverse u and a matrix m.
-fn apply_matrix(
-    m: [[u8; 8]; 8],
-    s: &[u8; 256],
-    u: &[u8; 256],
-    n: usize,
-    ks: &[u64; 80],
-    src: &[u8],
-    dst: &mut [u8],
-) -> u8
-    ensures number { λ r. ⌜ r ≡ blockRefusal n (length (now (src .entry))) (length (now (dst .entry))) ⌝ }
-    ensures block { λ r. ⌜ now (dst .exit) ≡ outcome r (lineBytes (matrixParts (now (s .entry)) (now (u .entry)) m) n (now (ks .entry)) (now (src .entry))) (now (dst .entry)) ⌝ }
-{
-    let number = labyrinth::block_refusal(n, src.len(), dst.len());
-    if number != 0 {
-        return number;
-    }
-    let x = matrix_rounds::rounds(s, m, n, ks, transforms::enter(s, n, ks, src));
-    transforms::leave(u, n, ks, exchange(x), dst);
+    transforms::leave(u, n, ks, labyrinth::exchange(h), dst);
     0
 }
 
@@ -80,19 +45,6 @@ fn by_table(k: WorkingKey, back: bool, src: &[u8], dst: &mut [u8]) -> u8
     apply_tables(&t, &s, &u, n, &ks, src, dst)
 }
 
-// One way or the other by the published matrix.
-fn by_matrix(k: WorkingKey, back: bool, src: &[u8], dst: &mut [u8]) -> u8
-    ensures number { λ r. ⌜ r ≡ blockRefusal (k .n) (length (now (src .entry))) (length (now (dst .entry))) ⌝ }
-    ensures block { λ r. ⌜ now (dst .exit) ≡ outcome r (way back (k .n) (k .words) (now (src .entry))) (now (dst .entry)) ⌝ }
-{
-    let n = k.n;
-    let m = mixing::matrix(tables::row());
-    let s = tables::sbox();
-    let u = tables::sbox_inverse();
-    let ks = schedule::schedule(k, back);
-    apply_matrix(m, &s, &u, n, &ks, src, dst)
-}
-
 // Enciphers a block by the merged table.
 pub fn encipher_by_table(k: WorkingKey, src: &[u8], dst: &mut [u8]) -> u8
     ensures number { λ r. ⌜ r ≡ blockRefusal (k .n) (length (now (src .entry))) (length (now (dst .entry))) ⌝ }
@@ -107,20 +59,4 @@ pub fn decipher_by_table(k: WorkingKey, src: &[u8], dst: &mut [u8]) -> u8
     ensures block { λ r. ⌜ now (dst .exit) ≡ outcome r (U article (k .n) (k .words) (now (src .entry))) (now (dst .entry)) ⌝ }
 {
     by_table(k, true, src, dst)
-}
-
-// Enciphers a block by the matrix.
-pub fn encipher_by_matrix(k: WorkingKey, src: &[u8], dst: &mut [u8]) -> u8
-    ensures number { λ r. ⌜ r ≡ blockRefusal (k .n) (length (now (src .entry))) (length (now (dst .entry))) ⌝ }
-    ensures block { λ r. ⌜ now (dst .exit) ≡ outcome r (E article (k .n) (k .words) (now (src .entry))) (now (dst .entry)) ⌝ }
-{
-    by_matrix(k, false, src, dst)
-}
-
-// Deciphers a block by the matrix.
-pub fn decipher_by_matrix(k: WorkingKey, src: &[u8], dst: &mut [u8]) -> u8
-    ensures number { λ r. ⌜ r ≡ blockRefusal (k .n) (length (now (src .entry))) (length (now (dst .entry))) ⌝ }
-    ensures block { λ r. ⌜ now (dst .exit) ≡ outcome r (U article (k .n) (k .words) (now (src .entry))) (now (dst .entry)) ⌝ }
-{
-    by_matrix(k, true, src, dst)
 }

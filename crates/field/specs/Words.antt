@@ -11,11 +11,11 @@ unfoldable pub join : ℕ → (ℕ → ℕ) → ℕ
 join zero b = 0
 join (suc n) b = b n * 2 ^ (8 * n) + join n b
 
--- 2.1: a word rotated left by k bits, 0 ≤ k ≤ 64
+-- 2.1: a word rotated left by k bits, 0 ≤ k ≤ 63
 unfoldable pub rotl : ℕ → ℕ → ℕ
 rotl w k = w * 2 ^ k % 2 ^ 64 + w / 2 ^ (64 - k)
 
--- 2.1: a word rotated right by k bits, 0 ≤ k ≤ 64
+-- 2.1: a word rotated right by k bits, 0 ≤ k ≤ 63
 unfoldable pub rotr : ℕ → ℕ → ℕ
 rotr w k = w * 2 ^ (64 - k) % 2 ^ 64 + w / 2 ^ k
 

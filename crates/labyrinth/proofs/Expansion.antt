@@ -24,6 +24,7 @@ use Rattle.labyrinth.proofs.Sizes.{sizes, legal-size}
 use Rattle.labyrinth.proofs.Room.{taken}
 use Rattle.labyrinth.proofs.Blocks.{length-zip, length-words, getD-words}
 use Rattle.labyrinth.proofs.Agree.{expandedWords-agree}
+use Rattle.labyrinth.proofs.Rounds.{tabulate-snoc}
 
 -- ---- zeros behind a list do not show
 
@@ -59,11 +60,6 @@ padded-push xs v k e h =
     let a : 32 - length xs ≡ suc (31 - k) = omega arith in
     let b : 32 - length (xs ++ (v ∷ [])) ≡ 31 - k = omega (arith, length-append xs (v ∷ [])) in
     rw (a, b) (set-at xs 0 (replicate (31 - k) 0) v k e ∙ sym (append-snoc xs v (replicate (31 - k) 0)))
-
-tabulate-snoc : (n : ℕ) (f : ℕ → ℕ) → tabulate (suc n) f ≡ tabulate n f ++ (f n ∷ [])
-unfolding tabulate
-tabulate-snoc zero f = refl
-tabulate-snoc (suc n) f = ap (λ (l : List ℕ). f 0 ∷ l) (tabulate-snoc n (λ k. f (suc k)))
 
 -- loading the key: word i more
 pub load-more : (key r : List ℕ) (i v : ℕ) → r ≡ padded (words i key) → i < 32 → v ≡ join 8 (λ b. getD key (8 * i + b) 0) → set r i v ≡ padded (words (i + 1) key)

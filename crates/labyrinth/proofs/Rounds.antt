@@ -20,12 +20,12 @@ use Rattle.labyrinth.specs.Keys.{half}
 use Rattle.labyrinth.specs.Refusals.{legal}
 use Rattle.labyrinth.specs.Working.{Size, wordsFrom, choose, blockIn, laid, both, onBlock}
 use Rattle.labyrinth.proofs.Sizes.{sizes, legal-size, illegal}
-use Rattle.labyrinth.proofs.Blocks.{length-zip}
+use Rattle.labyrinth.proofs.Blocks.{length-zip, getD-zip}
 use Rattle.labyrinth.proofs.Permutation.{P-take}
 
 -- ---- an array whose first words a loop replaces
 
-tabulate-snoc : (n : ℕ) (f : ℕ → ℕ) → tabulate (suc n) f ≡ tabulate n f ++ (f n ∷ [])
+pub tabulate-snoc : (n : ℕ) (f : ℕ → ℕ) → tabulate (suc n) f ≡ tabulate n f ++ (f n ∷ [])
 unfolding tabulate
 tabulate-snoc zero f = refl
 tabulate-snoc (suc n) f = ap (λ (l : List ℕ). f 0 ∷ l) (tabulate-snoc n (λ k. f (suc k)))
@@ -73,6 +73,11 @@ added n at x ks old e p =
     replaced-front _ old e p
     ∙ tabulate-cong n (λ i. plus (getD x i 0) (getD ks (at + i) 0)) (λ i. plus (getD (take n x) i 0) (getD (tabulate n (λ i. getD ks (at + i) 0)) i 0))
     (λ i l. ap₂ plus (sym (getD-take n x i 0 l)) (sym (getD-tabulate n (λ i. getD ks (at + i) 0) 0 i l)))
+
+-- word i of that, as it is made alone
+pub summed : (n at : ℕ) (x ks : List ℕ) (i : ℕ) → i < n → plus (getD x i 0) (getD ks (at + i) 0) ≡ getD (zip n plus (take n x) (wordsFrom n at ks)) i 0
+unfolding wordsFrom
+summed n at x ks i l = sym (getD-zip n plus (take n x) (wordsFrom n at ks) i l ∙ ap₂ plus (getD-take n x i 0 l) (getD-tabulate n (λ i. getD ks (at + i) 0) 0 i l))
 
 -- a key in front of a schedule
 pub words-front : (n : ℕ) (ks k : List ℕ) → n ≤ 4 → length k ≡ 4 → take 4 ks ≡ k → wordsFrom n 0 ks ≡ take n k

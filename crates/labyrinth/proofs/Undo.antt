@@ -126,15 +126,16 @@ mask-kept n s =
     tabulate-cong n (λ j. sigma (IMix n s) ((j + n - 1) % n)) (λ j. sigma s ((j + n - 1) % n))
     (λ j l. sigma-kept n s (mask n s) ((j + n - 1) % n) (mod-lt (j + n - 1) (omega arith)))
 
+-- a mask twice
+again : (a m : ℕ) → bitXor (bitXor a m) m ≡ a
+again a m = simp xors
+
 pub IMix-IMix : (n : ℕ) (s : Block) → length (s .0) ≡ n → length (s .1) ≡ n → IMix n (IMix n s) ≡ s
 unfolding IMix mask
 IMix-IMix n s a b =
     pair (ap (zip n bitXor (zip n bitXor (s .0) (mask n s))) (mask-kept n s) ∙ undone (s .0) a)
     (ap (zip n bitXor (zip n bitXor (s .1) (mask n s))) (mask-kept n s) ∙ undone (s .1) b)
   where
-    again : (a m : ℕ) → bitXor (bitXor a m) m ≡ a
-    again a m = simp xors
-
     undone : (x : List ℕ) → length x ≡ n → zip n bitXor (zip n bitXor x (mask n s)) (mask n s) ≡ x
     undone x e = zip-undo n bitXor bitXor x (mask n s) e (λ j. again (getD x j 0) (getD (mask n s) j 0))
 
@@ -241,9 +242,6 @@ module _ (SM : ℕ → ℕ) (words : OnWords SM) (n : ℕ) where
   round-back : (k : List ℕ) (s : Block) → Whole n s → round SM n k (exchange (round SM n k s)) ≡ exchange s
   unfolding round
   round-back k s g = pair refl (zip-undo n bitXor bitXor (s .0) (F SM n k (s .1)) (g .high .len) (λ j. again (getD (s .0) j 0) (getD (F SM n k (s .1)) j 0)))
-    where
-      again : (a m : ℕ) → bitXor (bitXor a m) m ≡ a
-      again a m = simp xors
 
   pub rounds-back : (m : ℕ) (K K′ : ℕ → List ℕ) (s : Block) → Whole n s → ((i : ℕ) → i < m → K′ i ≡ K (m - 1 - i))
       → rounds SM n K′ m (exchange (rounds SM n K m s)) ≡ exchange s

@@ -1,4 +1,4 @@
-// The records of the cipher and its refusals. Its definitions stand in specs/, its laws in proofs/.
+// The records of the cipher, the exchange of the halves, and the refusals. Its definitions stand in specs/, its laws in proofs/.
 
 ghost use mathlib.Core.Path.{_≡_};
 ghost use Rattle.labyrinth.specs.Refusals.{legal, legalLength, blockRefusal, expandRefusal};
@@ -20,6 +20,18 @@ pub struct Expanded {
 pub struct Halves {
     pub high: [u64; 4],
     pub low: [u64; 4],
+}
+
+// The halves change places.
+pub fn exchange(h: Halves) -> Halves
+    ensures { λ r. ⌜ r ≡ record { high = h .low; low = h .high } ⌝ }
+{
+    let high = h.low;
+    let low = h.high;
+    Halves {
+        high: high,
+        low: low,
+    }
 }
 
 // Whether n is 1, 2 or 4.

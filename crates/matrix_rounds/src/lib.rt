@@ -13,30 +13,18 @@ ghost use Rattle.labyrinth.specs.Refusals.{legal};
 ghost use Rattle.labyrinth.specs.Working.{Size, wordsFrom, choose, blockIn, laid};
 ghost use Rattle.labyrinth.specs.Working.{both, onBlock};
 
-// n words, with the key words from a place on added.
-fn add_key(n: usize, x: &[u64; 4], ks: &[u64; 80], at: usize) -> [u64; 4]
-    requires { ⌜ (n ≤ 4) × (at + n ≤ 80) ⌝ }
-    ensures { λ r. ⌜ take n r ≡ zip n plus (take n (now (x .entry))) (wordsFrom n at (now (ks .entry))) ⌝ }
-{
-    let mut y = [0u64; 4];
-    let mut j = 0usize;
-    while j < n {
-        y[j] = std::num::wrapping_add_u64(x[j], ks[at + j]);
-        j += 1;
-    }
-    y
-}
-
-// Word j of the permuted half-block y.
-fn perm_word(n: usize, y: &[u64; 4], j: usize) -> u64
-    requires { ⌜ Size n × (j < n) ⌝ }
-    ensures { λ r. ⌜ r ≡ getD (P n (now (y .entry))) j 0 ⌝ }
+// Word j of the permuted sum of the half-block x and the key words from a place on.
+fn perm_word(n: usize, x: &[u64; 4], ks: &[u64; 80], at: usize, j: usize) -> u64
+    requires { ⌜ Size n × (at + n ≤ 80) × (j < n) ⌝ }
+    ensures { λ r. ⌜ r ≡ getD (P n (zip n plus (take n (now (x .entry))) (wordsFrom n at (now (ks .entry))))) j 0 ⌝ }
 {
     let mut r = 0u64;
     let mut b = 0usize;
     while b < 8 {
-        let x = arithmetic::byte_at(y[(j + b) % n], b) as u64;
-        r = (x << (8 * b)) | r;
+        let i = (j + b) % n;
+        let y = std::num::wrapping_add_u64(x[i], ks[at + i]);
+        let v = arithmetic::byte_at(y, b) as u64;
+        r = (v << (8 * b)) | r;
         b += 1;
     }
     r
@@ -56,10 +44,10 @@ fn round(
     ensures { λ _. ⌜ both (now (l .exit)) (now (r .exit)) ≡ onBlock n (once (λ w. mixBy m (eachByte (sub (now (s .entry))) w)) n (wordsFrom n at (now (ks .entry)))) (both (now (l .entry)) (now (r .entry))) ⌝ }
 {
     let c = tables::constants();
-    let y = add_key(n, r, ks, at);
+    let x = *r;
     let mut j = 0usize;
     while j < n {
-        let w = mixing::mix_by(m, mixing::substitute_bytes(s, perm_word(n, &y, j)));
+        let w = mixing::mix_by(m, mixing::substitute_bytes(s, perm_word(n, &x, ks, at, j)));
         let v = (l[j] ^ c[j]) ^ w;
         l[j] = r[j];
         r[j] = v;

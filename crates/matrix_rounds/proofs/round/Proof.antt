@@ -1,33 +1,36 @@
 -- After j turns the first j words of both halves are the new ones.
 -- Assumes nothing.
 use mathlib.Core.Path.{_≡_, refl, ap, _∙_}
-use Prim.Native.Nat.{_-_, _≤_}
+use Prim.Native.Nat.{ℕ, _-_, _≤_}
+use native.Mathlib.Nat.{le-of-eq}
 use native.Mathlib.Omega.{arith}
+use lib.ListN.{take}
+use lib.Seq.{take-all}
 use Rattle.field.specs.Words.{eachByte}
 use Rattle.field.specs.Substitution.{sub}
 use Rattle.field.specs.Mixing.{mixBy}
+use Rattle.labyrinth.specs.Blocks.{plus, zip}
+use Rattle.labyrinth.specs.Working.{wordsFrom}
+use Rattle.labyrinth.proofs.Blocks.{length-zip}
 use Rattle.labyrinth.proofs.Rounds.{Turned, turned-none, turned-more, turned-all}
 use borrow.Author.Needs.{needs}
 use Rattle.matrix_rounds.proofs.round.Statement.{statement}
 use Rattle.matrix_rounds.proofs.round.Tie as tie
 
 abbrev Inv-loop : tie.InvT-loop
-Inv-loop s m n ks at l₀ r₀ c y j₀ l r j = (j ≤ n) × Turned (λ w. mixBy m (eachByte (sub s) w)) n y l₀ r₀ j l r
+Inv-loop s m n ks at l₀ r₀ c x j₀ l r j = (j ≤ n) × Turned (λ w. mixBy m (eachByte (sub s) w)) n (zip n plus (take n x) (wordsFrom n at ks)) l₀ r₀ j l r
 
 abbrev μ-loop : tie.MeasureT-loop
-μ-loop s m n ks at l₀ r₀ c y j₀ l r j = n - j
+μ-loop s m n ks at l₀ r₀ c x j₀ l r j = n - j
 
 constants-requires : tie.Need-constants-requires Inv-loop μ-loop
 constants-requires c κs = search needs
-
-add-key-requires : tie.Need-add-key-requires Inv-loop μ-loop
-add-key-requires c κs = search needs
 
 loop-holds : tie.Need-loop-holds Inv-loop μ-loop
 loop-holds c = (omega arith, turned-none _ _ _ _ _)
 
 perm-word-requires : tie.Need-perm-word-requires Inv-loop μ-loop
-perm-word-requires c κs = (c .before .before .before .before .before .before .pre .0, omega arith)
+perm-word-requires c κs = let p = c .before .before .before .before .before .pre in (p .0, p .1, omega arith)
 
 substitute-bytes-requires : tie.Need-substitute-bytes-requires Inv-loop μ-loop
 substitute-bytes-requires c κs = search needs
@@ -75,8 +78,8 @@ loop-again : tie.Need-loop-again Inv-loop μ-loop
 loop-again c =
     let b = c .before .before in
     let l = b .before .before .before .before .before .loop in
-    let k = b .before .before .before .before .before .before .before .before .constants in
-    let a = b .before .before .before .before .before .before .before .before .before .args in (
+    let k = b .before .before .before .before .before .before .before .constants in
+    let a = b .before .before .before .before .before .before .before .before .args in (
       omega arith,
       turned-more _ _ _ _ _ (l .j) (omega arith) (omega arith) refl (k .ensures)
           (b .mix-by .ensures ∙ ap (mixBy (a .m)) (b .before .substitute-bytes .ensures ∙ ap (eachByte (sub (a .s .now))) (b .before .before .perm-word .ensures)))
@@ -85,9 +88,10 @@ loop-again c =
 
 returns : tie.Need-returns Inv-loop μ-loop
 returns c =
-    let s = c .before .before .before .before .before in
-    let e : c .before .loop .j ≡ s .args .n = omega arith in
-    turned-all _ _ _ _ _ _ (omega arith) (omega arith) (c .before .before .add-key .ensures) e (c .before .loop .inv .1)
+    let s = c .before .before .before .before in
+    let n : ℕ = s .args .n in
+    let e : c .before .loop .j ≡ n = omega arith in
+    turned-all _ n _ _ _ _ (omega arith) (omega arith) (take-all n _ (le-of-eq (length-zip n plus _ _))) e (c .before .loop .inv .1)
 
 pub round-spec : {M : Type 1} → statement M
 round-spec =
@@ -96,7 +100,6 @@ round-spec =
     Inv-loop
     μ-loop
     constants-requires
-    add-key-requires
     loop-holds
     perm-word-requires
     substitute-bytes-requires

@@ -1,7 +1,8 @@
-// How operations answer to bad and good arguments. A case is the operation, n and l in 8 bytes each and two lengths in 2 bytes
-// each, lowest byte first. Its line: the operation, its number, and whether the key returned is all zeros ('zeros'), the
-// destination is as it was ('same'), or something was made ('made').
+// Prints how operations answer to bad and good arguments. Standard input has cases of 23 bytes: the operation, n and l in 8 bytes
+// each and three lengths in 2 bytes each, lowest byte first. The line of a case: the operation, its number, and whether the key
+// returned is all zeros ('zeros'), the destination is as it was ('same'), or something was made ('made').
 use labyrinth::WorkingKey;
+use libc::STDIN_FILENO;
 use libc::STDOUT_FILENO;
 ghost use mathlib.Core.Path.{_≡_};
 ghost use Prim.Native.Nat.{_≤_, _<_};
@@ -85,13 +86,13 @@ fn block_case(op: u8, k: WorkingKey, src: &[u8], dst: &mut [u8]) {
         let number = cipher::encipher_by_table(k, src, dst);
         print_line(b"encipher table ", number, is_same(dst), b" same\n");
     } else if op == 2 {
-        let number = cipher::encipher_by_matrix(k, src, dst);
+        let number = matrix_cipher::encipher_by_matrix(k, src, dst);
         print_line(b"encipher matrix ", number, is_same(dst), b" same\n");
     } else if op == 3 {
         let number = cipher::decipher_by_table(k, src, dst);
         print_line(b"decipher table ", number, is_same(dst), b" same\n");
     } else {
-        let number = cipher::decipher_by_matrix(k, src, dst);
+        let number = matrix_cipher::decipher_by_matrix(k, src, dst);
         print_line(b"decipher matrix ", number, is_same(dst), b" same\n");
     }
 }
@@ -105,7 +106,8 @@ fn front_mut(s: &mut [u8], count: usize) -> &mut [u8] {
     if count <= s.len() { &mut s[..count] } else { s }
 }
 
-pub fn take_case(case: &[u8]) {
+// Takes a case apart.
+fn take_case(case: &[u8]) {
     let op = (byte(case, 0, 0) % 256) as u8;
     let n = number_at(case, 1) as usize;
     let l = number_at(case, 9) as usize;
@@ -120,5 +122,28 @@ pub fn take_case(case: &[u8]) {
             words: [0x0123456789ABCDEF; 32],
         };
         block_case(op, k, given, front_mut(&mut room, length_at(case, 19)));
+    }
+}
+
+// Reads a case and prints its line, if there is one.
+fn read_case() -> bool {
+    let mut space = [0u8; 23];
+    let case: &mut [u8] = &mut space;
+    let got = io::read_full(STDIN_FILENO, case);
+    if got != 23 {
+        return false;
+    }
+    take_case(case);
+    true
+}
+
+// No more than a thousand cases are taken.
+fn main() {
+    let mut i = 0usize;
+    while i < 1000 {
+        if !read_case() {
+            return;
+        }
+        i += 1;
     }
 }

@@ -4,8 +4,8 @@ use mathlib.Core.Path.{_≡_, sym, _∙_}
 use Rattle.labyrinth.specs.Working.{matrixParts}
 use Rattle.labyrinth.proofs.Operations.{block-taken, refused-keeps, phases}
 use borrow.Author.Needs.{needs}
-use Rattle.cipher.proofs.apply_matrix.Statement.{statement}
-use Rattle.cipher.proofs.apply_matrix.Tie as tie
+use Rattle.matrix_cipher.proofs.apply_matrix.Statement.{statement}
+use Rattle.matrix_cipher.proofs.apply_matrix.Tie as tie
 
 block-refusal-requires : tie.Need-block-refusal-requires
 block-refusal-requires c κs = search needs

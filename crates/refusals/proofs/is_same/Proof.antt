@@ -3,8 +3,8 @@
 use Prim.Native.Nat.{_≤_, _-_}
 use lib.ListN.{length}
 use borrow.Author.Needs.{needs}
-use Rattle.block_vectors.proofs.refusals.is_same.Statement.{statement}
-use Rattle.block_vectors.proofs.refusals.is_same.Tie as tie
+use Rattle.refusals.proofs.is_same.Statement.{statement}
+use Rattle.refusals.proofs.is_same.Tie as tie
 
 abbrev Inv-loop : tie.InvT-loop
 Inv-loop s i₀ i = i ≤ length s

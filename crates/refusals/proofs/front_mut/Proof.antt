@@ -4,8 +4,8 @@ use mathlib.Core.Path.{sym}
 use native.Mathlib.Omega.{arith}
 use lib.Seq.{length-take-le}
 use borrow.Author.Needs.{needs}
-use Rattle.block_vectors.proofs.refusals.front_mut.Statement.{statement}
-use Rattle.block_vectors.proofs.refusals.front_mut.Tie as tie
+use Rattle.refusals.proofs.front_mut.Statement.{statement}
+use Rattle.refusals.proofs.front_mut.Tie as tie
 
 slice-aggregate-result : tie.Need-slice-aggregate-result
 slice-aggregate-result c = sym (length-take-le _ _ (omega arith))

@@ -4,8 +4,8 @@ use mathlib.Core.Path.{ap, _∙_}
 use Rattle.field.specs.Mixing.{matrix}
 use Rattle.labyrinth.proofs.Operations.{matrix-way}
 use borrow.Author.Needs.{needs}
-use Rattle.cipher.proofs.by_matrix.Statement.{statement}
-use Rattle.cipher.proofs.by_matrix.Tie as tie
+use Rattle.matrix_cipher.proofs.by_matrix.Statement.{statement}
+use Rattle.matrix_cipher.proofs.by_matrix.Tie as tie
 
 row-requires : tie.Need-row-requires
 row-requires c κs = search needs

@@ -2,8 +2,8 @@
 -- Assumes nothing.
 use Prim.Native.Nat.{_≤_}
 use borrow.Author.Needs.{needs}
-use Rattle.block_vectors.proofs.refusals.number_at.Statement.{statement}
-use Rattle.block_vectors.proofs.refusals.number_at.Tie as tie
+use Rattle.refusals.proofs.number_at.Statement.{statement}
+use Rattle.refusals.proofs.number_at.Tie as tie
 
 abbrev Inv-loop : tie.InvT-loop
 Inv-loop s at r₀ i₀ r i = i ≤ 8

@@ -2,8 +2,8 @@
 -- Assumes nothing.
 use Prim.Native.Nat.{_≤_, _-_}
 use borrow.Author.Needs.{needs}
-use Rattle.block_vectors.proofs.refusals.is_blank.Statement.{statement}
-use Rattle.block_vectors.proofs.refusals.is_blank.Tie as tie
+use Rattle.refusals.proofs.is_blank.Statement.{statement}
+use Rattle.refusals.proofs.is_blank.Tie as tie
 
 abbrev Inv-loop : tie.InvT-loop
 Inv-loop words sum₀ i₀ sum i = i ≤ 32
