@@ -1,11 +1,14 @@
-# make run    the main job as far as it exists: a key expanded, a block enciphered and deciphered, by table and by matrix
+# make run    the main job as far as it exists: a key expanded, a block enciphered and deciphered, by table and by matrix,
+#             and three blocks sealed and opened, in CBC and in CTR
 # make test   the gate
 # make bench  times the proved code against C
 .PHONY: run test bench
 
 run:
-	rt check block_vectors
-	head -c 258 crates/block_vectors/stdin | target/bin/block_vectors
+	rt check vectors
+	head -c 61 crates/vectors/stdin | target/bin/vectors
+	tail -c +32538 crates/vectors/stdin | head -c 93 | target/bin/vectors
+	tail -c 93 crates/vectors/stdin | target/bin/vectors
 
 test:
 	tests/gate.sh

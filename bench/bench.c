@@ -1,7 +1,5 @@
-/* Times the proved code against C, each block by itself, n = 1, 2 and 4, both ways: the best of many short passes, one of C and one of ours
-   in turn. First both must give the same bytes. It assumes Linux on x86-64.
-   Each function of this library has one caller, so all is compiled into one. The calls cost a block 5 to 9 ns more where
-   cipher::apply_tables has other callers, and 15 to 19 ns more where the code by the matrix is linked too (measured once). */
+/* Times the proved code against C at n = 1, 2 and 4: many blocks each by itself, both ways, and runs by CBC and CTR; the best of many
+   passes, one of C and one of ours in turn. First both must give the same bytes. It assumes Linux on x86-64. */
 #define _POSIX_C_SOURCE 199309L
 #include <stdint.h>
 #include <stdio.h>
@@ -11,10 +9,16 @@
 
 /* The proved code. A slice is a pointer and a length. */
 uint8_t sigourta_blocks(size_t n, const uint64_t words[32], uint8_t back, const uint8_t *src, size_t src_length, uint8_t *dst, size_t dst_length);
+uint8_t sigourta_cbc_seal(size_t n, const uint64_t words[32], const uint8_t *start, size_t start_length, const uint8_t *src, size_t src_length, uint8_t *dst, size_t dst_length);
+uint8_t sigourta_cbc_open(size_t n, const uint64_t words[32], const uint8_t *start, size_t start_length, const uint8_t *src, size_t src_length, uint8_t *dst, size_t dst_length);
+uint8_t sigourta_ctr(size_t n, const uint64_t words[32], const uint8_t *start, size_t start_length, uint64_t q, const uint8_t *src, size_t src_length, uint8_t *dst, size_t dst_length);
 
-enum { LENGTH = 1 << 16, PASSES = 1000 };
+enum { LONGEST = 1 << 20, KINDS = 5 };
+static const char *const KIND[KINDS] = {"enciphering", "deciphering", "CBC sealing", "CBC opening", "CTR"};
+static const size_t LENGTH[KINDS] = {1 << 16, 1 << 16, LONGEST, LONGEST, LONGEST};
+static const int PASSES[KINDS] = {400, 400, 40, 40, 40};
 
-static uint8_t input[LENGTH], by_c[LENGTH], by_us[LENGTH];
+static uint8_t input[LONGEST], by_c[LONGEST], by_us[LONGEST], start[64];
 static uint64_t words[32];
 
 static uint64_t next_random(void) {
@@ -32,56 +36,84 @@ static double now(void) {
 }
 
 /* Both make the schedule in each pass; ours makes the tables too. */
-static double time_c(int n, int back) {
+static double time_c(int kind, int n, size_t length) {
     uint64_t schedule[80];
+    size_t blocks = length / (16 * (size_t)n);
     double began = now();
-    lab_schedule(n, words, back, schedule);
-    lab_blocks(n, schedule, input, by_c, LENGTH / (16 * (size_t)n));
+    lab_schedule(n, words, kind == 1 || kind == 3, schedule);
+    if (kind < 2) lab_blocks(n, schedule, input, by_c, blocks);
+    else if (kind == 2) lab_cbc_seal(n, schedule, start, input, by_c, blocks);
+    else if (kind == 3) lab_cbc_open(n, schedule, start, input, by_c, blocks);
+    else lab_ctr(n, schedule, start, input, by_c, blocks);
     return now() - began;
 }
 
-static double time_us(int n, int back) {
+static double time_us(int kind, int n, size_t length) {
+    size_t z = 16 * (size_t)n;
     double began = now();
-    sigourta_blocks((size_t)n, words, (uint8_t)back, input, LENGTH, by_us, LENGTH);
+    if (kind < 2) sigourta_blocks((size_t)n, words, (uint8_t)kind, input, length, by_us, length);
+    else if (kind == 2) sigourta_cbc_seal((size_t)n, words, start, z, input, length, by_us, length);
+    else if (kind == 3) sigourta_cbc_open((size_t)n, words, start, z, input, length, by_us, length);
+    else sigourta_ctr((size_t)n, words, start, z, 0, input, length, by_us, length);
     return now() - began;
 }
 
 /* 0 if the two differ */
-static int compare(int n, int back) {
-    memset(by_c, 0x55, LENGTH);
-    memset(by_us, 0xAA, LENGTH);
-    time_c(n, back);
-    time_us(n, back);
-    if (memcmp(by_c, by_us, LENGTH) == 0) return 1;
-    printf("n = %d, %s: DIFFER\n", n, back ? "deciphering" : "enciphering");
+static int compare(int kind, int n) {
+    memset(by_c, 0x55, LONGEST);
+    memset(by_us, 0xAA, LONGEST);
+    time_c(kind, n, LENGTH[kind]);
+    time_us(kind, n, LENGTH[kind]);
+    if (memcmp(by_c, by_us, LENGTH[kind]) == 0) return 1;
+    printf("n = %d, %s: DIFFER\n", n, KIND[kind]);
     return 0;
 }
-
-static double best_c[3][2], best_us[3][2];
 
 static void keep(double *best, double t) {
     if (*best == 0 || t < *best) *best = t;
 }
 
+static double long_run[KINDS][3];
+
+static void long_runs(void) {
+    printf("Both give the same bytes. Both are release builds (-O3). The destination buffers are not cleared between passes.\n");
+    printf("The best of many passes each, in turn. Ratio: C's time / ours; above 1.00 ours is faster.\n");
+    printf("n  kind         length   C ns/block  ours ns/block  ratio\n");
+    for (int kind = 0; kind < KINDS; kind++)
+        for (int size = 0; size < 3; size++) {
+            double c = 0, us = 0, blocks = (double)LENGTH[kind] / (16 << size);
+            for (int pass = 0; pass < PASSES[kind]; pass++) {
+                keep(&c, time_c(kind, 1 << size, LENGTH[kind]));
+                keep(&us, time_us(kind, 1 << size, LENGTH[kind]));
+            }
+            long_run[kind][size] = us / blocks;
+            printf("%d  %-11s  %7zu  %10.1f  %13.1f  %5.2f\n", 1 << size, KIND[kind], LENGTH[kind], c / blocks, us / blocks, c / us);
+        }
+}
+
+/* what a short run costs beyond its share of a long one */
+static void short_runs(void) {
+    printf("Short runs: ns a run; and in brackets its blocks' share of a long run.\n");
+    for (int kind = 2; kind < KINDS; kind++)
+        for (int size = 0; size < 3; size++) {
+            printf("%d  %-11s", 1 << size, KIND[kind]);
+            for (size_t length = (size_t)16 << size; length <= 1024; length *= 4) {
+                double us = 0;
+                for (int pass = 0; pass < 2000; pass++) keep(&us, time_us(kind, 1 << size, length));
+                printf("  %zu bytes: %.0f (%.0f)", length, us, long_run[kind][size] * (double)(length / ((size_t)16 << size)));
+            }
+            printf("\n");
+        }
+}
+
 int main(void) {
     for (int i = 0; i < 32; i++) words[i] = next_random();
-    for (int i = 0; i < LENGTH; i++) input[i] = (uint8_t)(next_random() >> 32);
-    for (int size = 0; size < 3; size++)
-        for (int back = 0; back < 2; back++)
-            if (!compare(1 << size, back)) return 1;
-    for (int pass = 0; pass < PASSES; pass++)
+    for (int i = 0; i < 64; i++) start[i] = (uint8_t)(next_random() >> 32);
+    for (int i = 0; i < LONGEST; i++) input[i] = (uint8_t)(next_random() >> 32);
+    for (int kind = 0; kind < KINDS; kind++)
         for (int size = 0; size < 3; size++)
-            for (int back = 0; back < 2; back++) {
-                keep(&best_c[size][back], time_c(1 << size, back));
-                keep(&best_us[size][back], time_us(1 << size, back));
-            }
-    printf("Both give the same bytes. Both are release builds (-O3). The destination buffers are not cleared between passes.\n");
-    printf("%d bytes a pass, the best of %d passes each, in turn. Ratio: C's time / ours; above 1.00 ours is faster.\n", LENGTH, PASSES);
-    printf("n  direction    C ns/block  ours ns/block  ratio\n");
-    for (int size = 0; size < 3; size++)
-        for (int back = 0; back < 2; back++) {
-            double blocks = LENGTH / (16 << size), c = best_c[size][back], us = best_us[size][back];
-            printf("%d  %s  %10.1f  %13.1f  %5.2f\n", 1 << size, back ? "deciphering" : "enciphering", c / blocks, us / blocks, c / us);
-        }
+            if (!compare(kind, 1 << size)) return 1;
+    long_runs();
+    short_runs();
     return 0;
 }

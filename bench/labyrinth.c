@@ -72,3 +72,61 @@ void lab_blocks(int n, const uint64_t *k, const uint8_t *src, uint8_t *dst, size
     case 4: for (i = 0; i < blocks; i++) block(4, k, src + 64 * i, dst + 64 * i); break;
     }
 }
+
+static inline __attribute__((always_inline)) void xor_block(int n, uint8_t *dst, const uint8_t *a, const uint8_t *b) {
+    for (int j = 0; j < 2 * n; j++) store(dst + 8 * j, load(a + 8 * j) ^ load(b + 8 * j));
+}
+
+static inline __attribute__((always_inline)) void seal(int n, const uint64_t *k, const uint8_t *start, const uint8_t *src, uint8_t *dst, size_t blocks) {
+    uint8_t x[64];
+    const uint8_t *chain = start;
+    for (size_t i = 0; i < blocks; i++) {
+        xor_block(n, x, src, chain);
+        block(n, k, x, dst);
+        chain = dst;
+        src += 16 * n;
+        dst += 16 * n;
+    }
+}
+
+static inline __attribute__((always_inline)) void open(int n, const uint64_t *k, const uint8_t *start, const uint8_t *src, uint8_t *dst, size_t blocks) {
+    uint8_t x[64];
+    const uint8_t *chain = start;
+    for (size_t i = 0; i < blocks; i++) {
+        block(n, k, src, x);
+        xor_block(n, dst, x, chain);
+        chain = src;
+        src += 16 * n;
+        dst += 16 * n;
+    }
+}
+
+/* c plus 1, its last byte least */
+static inline void step(uint8_t *c, size_t size) {
+    while (size > 0 && ++c[--size] == 0) {}
+}
+
+static inline __attribute__((always_inline)) void count(int n, const uint64_t *k, const uint8_t *start, const uint8_t *src, uint8_t *dst, size_t blocks) {
+    uint8_t c[64], x[64];
+    memcpy(c, start, 16 * (size_t)n);
+    for (size_t i = 0; i < blocks; i++) {
+        block(n, k, c, x);
+        xor_block(n, dst, src, x);
+        step(c, 16 * (size_t)n);
+        src += 16 * n;
+        dst += 16 * n;
+    }
+}
+
+#define RUN(name, one) \
+    void name(int n, const uint64_t *k, const uint8_t *start, const uint8_t *src, uint8_t *dst, size_t blocks) { \
+        switch (n) { \
+        case 1: one(1, k, start, src, dst, blocks); break; \
+        case 2: one(2, k, start, src, dst, blocks); break; \
+        case 4: one(4, k, start, src, dst, blocks); break; \
+        } \
+    }
+
+RUN(lab_cbc_seal, seal)
+RUN(lab_cbc_open, open)
+RUN(lab_ctr, count)

@@ -5,3 +5,7 @@
 void lab_schedule(int n, const uint64_t *w, int back, uint64_t *k);
 /* many blocks, each by itself */
 void lab_blocks(int n, const uint64_t *k, const uint8_t *src, uint8_t *dst, size_t blocks);
+/* runs of whole blocks from a start block: CBC, and CTR with offset 0 */
+void lab_cbc_seal(int n, const uint64_t *k, const uint8_t *start, const uint8_t *src, uint8_t *dst, size_t blocks);
+void lab_cbc_open(int n, const uint64_t *k, const uint8_t *start, const uint8_t *src, uint8_t *dst, size_t blocks);
+void lab_ctr(int n, const uint64_t *k, const uint8_t *start, const uint8_t *src, uint8_t *dst, size_t blocks);

@@ -12,6 +12,7 @@ import sys
 sys.dont_write_bytecode = True
 sys.path.insert(0, os.path.join(os.path.dirname(os.path.abspath(__file__)), "archivists"))
 import labyrinth
+import modes
 
 
 def print_tables():
@@ -21,35 +22,59 @@ def print_tables():
         yield f"{b:02x} {labyrinth.S[b]:02x} {labyrinth.S_INV[b]:02x} {merged:016x} {labyrinth.cmbn_poly(b):016x}\n"
 
 
-def vectors(kind, count):
+LARGE = (1 << 64) - 1
+
+
+def found(kind, count):
     path = os.path.join(os.path.dirname(os.path.abspath(__file__)), "archivists", "vectors.json")
     with open(path) as file:
-        found = json.load(file)[kind]
-    if len(found) != count:
-        raise SystemExit(f"expected.py: {len(found)} vectors of the kind {kind}, not {count}")
-    return found
+        vectors = json.load(file)[kind]
+    if len(vectors) != count:
+        raise SystemExit(f"expected.py: {len(vectors)} vectors of the kind {kind}, not {count}")
+    return vectors
 
 
-def block_vectors_input():
-    """Cases of 258 bytes: n, l, the key in 128 bytes, the block to encipher and the block to decipher in 64 each."""
-    for v in vectors("block", 225):
-        key, plain, sealed = (bytes.fromhex(v[name]) for name in ("key", "pt", "ct"))
-        yield bytes([v["n"], v["l"]]) + key.ljust(128, b"\0") + plain.ljust(64, b"\0") + sealed.ljust(64, b"\0")
+def far_runs():
+    """CTR vectors more, by the archivists' program: three blocks from the last q on, the start block all 00 and all FF."""
+    for n in (4, 2, 1):
+        key, source = bytes(range(16 * n)), bytes(i * 7 % 256 for i in range(48 * n))
+        for start in (bytes(16 * n), b"\xff" * (16 * n)):
+            sealed = modes.ctr_crypt(labyrinth.Labyrinth(n, key), start, LARGE, source)
+            texts = {"key": key.hex(), "start": start.hex(), "pt": source.hex(), "ct": sealed.hex()}
+            yield {"n": n, "l": 2, "q": f"{LARGE:x}", **texts}
 
 
-def block_vectors():
-    """For each case the expansion with all 32 words, then both engines enciphering and deciphering."""
-    for v in vectors("block", 225):
+def vectors_input():
+    """Cases of a head (kind, n, l, q in 8 bytes, the source's length in 2, lowest byte first), the key, a run's start block, the source.
+    A block's source is the block to encipher and the block to decipher."""
+    def case(kind, v, q, start, source):
+        head = bytes([kind, v["n"], v["l"]]) + q.to_bytes(8, "little") + (len(source) // 2).to_bytes(2, "little")
+        return head + bytes.fromhex(v["key"] + start + source)
+
+    for v in found("block", 225):
+        yield case(0, v, 0, "", v["pt"] + v["ct"])
+    for v in found("cbc", 72):
+        yield case(1, v, 0, v["iv"], v["pt"])
+    for v in [*found("ctr", 360), *far_runs()]:
+        yield case(2, v, int(v["q"], 16), v["start"], v["pt"])
+
+
+def vectors():
+    """For each block the expansion with all 32 words, then both engines enciphering and deciphering; each run sealed and opened."""
+    for v in found("block", 225):
         yield (
             f"expand 0 {v['expanded'].ljust(512, '0')}\n"
             f"encipher table 0 {v['ct']}\nencipher matrix 0 {v['ct']}\n"
             f"decipher table 0 {v['pt']}\ndecipher matrix 0 {v['pt']}\n"
         )
+    for v in found("cbc", 72):
+        yield f"cbc seal 0 {v['ct']}\ncbc open 0 {v['pt']}\n"
+    for v in [*found("ctr", 360), *far_runs()]:
+        yield f"ctr seal 0 {v['ct']}\nctr open 0 {v['pt']}\n"
 
 
-LARGE = (1 << 64) - 1
 # document 01's operations: expansion of n, l and a key's length; block operations under a key made by hand, with the lengths of the
-# source and the destination
+# source and the destination; runs under such a key, with the lengths of the start block, the source and the destination
 EXPANSIONS = [
     (0, 2, 16), (3, 2, 48), (8, 2, 128), (3, 9, 0), (LARGE, 2, 16), (1 << 62, 4, 0), (0, 0, 0),
     (1, 1, 8), (1, 5, 40), (2, 0, 0), (4, LARGE, 0), (1, 1 << 61, 0),
@@ -62,7 +87,16 @@ BLOCKS = [
     (1, 16, 15), (1, 16, 17), (1, 16, 0), (2, 32, 16), (4, 64, 63),
     (1, 16, 16), (2, 32, 32), (4, 64, 64),
 ]
-OPERATIONS = ["encipher table", "encipher matrix", "decipher table", "decipher matrix"]
+RUNS = [
+    (0, 0, 0, 0), (3, 48, 48, 48), (8, 128, 128, 128), (LARGE, 16, 16, 16), (3, 15, 17, 18),
+    (1, 15, 16, 16), (1, 17, 16, 16), (1, 0, 16, 16), (2, 16, 32, 32), (1, 15, 15, 15), (1, 17, 15, 16), (4, 16, 0, 0),
+    (1, 16, 15, 15), (1, 16, 17, 17), (2, 32, 16, 16), (1, 16, 15, 16), (1, 16, 17, 18), (4, 64, 32, 0),
+    (1, 16, 16, 15), (1, 16, 16, 17), (1, 16, 32, 31), (2, 32, 32, 33), (4, 64, 64, 63), (1, 16, 0, 1), (1, 16, 16, 0),
+    (1, 16, 0, 0), (1, 16, 1, 1), (1, 16, 16, 16), (1, 16, 32, 32), (2, 32, 33, 33), (2, 32, 64, 64), (4, 64, 0, 0), (4, 64, 192, 192),
+    (4, 64, 255, 255),
+]
+BLOCK_OPERATIONS = ["encipher table", "encipher matrix", "decipher table", "decipher matrix"]
+RUN_OPERATIONS = ["cbc seal", "cbc open", "ctr"]
 
 
 def refusals_input():
@@ -75,6 +109,9 @@ def refusals_input():
     for op in range(4):
         for n, source, destination in BLOCKS:
             yield case(1 + op, n, 0, source, destination, 0)
+    for op in range(3):
+        for n, start, source, destination in RUNS:
+            yield case(5 + op, n, 0, start, source, destination)
 
 
 def refusals():
@@ -82,17 +119,22 @@ def refusals():
     for n, l, key in EXPANSIONS:
         number = 1 if n not in (1, 2, 4) else 2 if l not in (2, 3, 4) else 3 if key != 8 * n * l else 0
         yield f"expand {number} {'zeros' if number else 'made'}\n"
-    for op in OPERATIONS:
+    for op in BLOCK_OPERATIONS:
         for n, source, destination in BLOCKS:
             number = 1 if n not in (1, 2, 4) else 4 if source != 16 * n else 5 if destination != 16 * n else 0
             yield f"{op} {number} {'same' if number else 'made'}\n"
+    for op in RUN_OPERATIONS:
+        for n, start, source, destination in RUNS:
+            uneven = op != "ctr" and source % (16 * n or 1)
+            number = 1 if n not in (1, 2, 4) else 6 if start != 16 * n else 4 if uneven else 5 if destination != source else 0
+            yield f"{op} {number} {'same' if number else 'made' if destination else 'empty'}\n"
 
 
 # name: (the maker of the input, the maker of the output, how many cases)
 PROGRAMS = {
     "print_tables": (None, print_tables, 256),
-    "block_vectors": (block_vectors_input, block_vectors, 225),
-    "refusals": (refusals_input, refusals, 103),
+    "vectors": (vectors_input, vectors, 663),
+    "refusals": (refusals_input, refusals, 205),
 }
 
 

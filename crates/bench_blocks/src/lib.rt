@@ -1,5 +1,5 @@
-// What the benchmark (bench/bench.c) times: many blocks, each by itself, under one schedule, with the tables made once.
-// It only states what makes it safe: the cipher's contracts say what a block becomes.
+// What the benchmark (bench/bench.c) times: many blocks, each by itself, under one schedule, with the tables made once; and runs.
+// It only states what makes it safe: the contracts of the cipher and the runs say what the bytes become.
 use labyrinth::WorkingKey;
 ghost use mathlib.Core.Path.{_≡_};
 ghost use lib.ListN.{length};
@@ -7,7 +7,7 @@ ghost use Rattle.labyrinth.specs.Working.{Size};
 
 // Maps every whole block of src.
 fn each_block(
-    t: &[u64; 256],
+    t: &[u64],
     s: &[u8; 256],
     u: &[u8; 256],
     n: usize,
@@ -42,7 +42,7 @@ pub extern "C" fn sigourta_blocks(
     if src.len() != dst.len() {
         return 5;
     }
-    let t = tables::merged_table();
+    let t = spread::spread_table(&tables::merged_table());
     let s = tables::sbox();
     let u = tables::sbox_inverse();
     let k = WorkingKey {
@@ -52,4 +52,45 @@ pub extern "C" fn sigourta_blocks(
     let ks = schedule::schedule(k, back != 0);
     each_block(&t, &s, &u, n, &ks, src, dst);
     0
+}
+
+fn key(n: usize, words: &[u64; 32]) -> WorkingKey {
+    WorkingKey {
+        n: n,
+        words: *words,
+    }
+}
+
+#[no_mangle]
+pub extern "C" fn sigourta_cbc_seal(
+    n: usize,
+    words: &[u64; 32],
+    start: &[u8],
+    src: &[u8],
+    dst: &mut [u8],
+) -> u8 {
+    cbc::seal(key(n, words), start, src, dst)
+}
+
+#[no_mangle]
+pub extern "C" fn sigourta_cbc_open(
+    n: usize,
+    words: &[u64; 32],
+    start: &[u8],
+    src: &[u8],
+    dst: &mut [u8],
+) -> u8 {
+    cbc::open(key(n, words), start, src, dst)
+}
+
+#[no_mangle]
+pub extern "C" fn sigourta_ctr(
+    n: usize,
+    words: &[u64; 32],
+    start: &[u8],
+    q: u64,
+    src: &[u8],
+    dst: &mut [u8],
+) -> u8 {
+    ctr::run(key(n, words), start, q, src, dst)
 }

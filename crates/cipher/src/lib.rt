@@ -8,11 +8,19 @@ ghost use lib.ListN.{length};
 ghost use Rattle.labyrinth.specs.Cipher.{article};
 ghost use Rattle.labyrinth.specs.Keys.{E, U};
 ghost use Rattle.labyrinth.specs.Refusals.{blockRefusal, outcome};
-ghost use Rattle.labyrinth.specs.Working.{tableParts, lineBytes, way};
+ghost use Rattle.labyrinth.specs.Working.{lendable, lentRefusal, tableParts, lineBytes, way};
 
-// Maps a block under a schedule, by a substitution s, its inverse u and a merged table t, all lent.
+// Whether a table of so many words is in one of the two forms.
+fn is_lendable(words: usize) -> bool
+    ensures { λ r. ⌜ r ≡ lendable words ⌝ }
+{
+    words == 256 || words == 2048
+}
+
+// Maps a block under a schedule, by a substitution s, its inverse u and a merged table t, all lent: t as it is, 256 words, or as
+// eight tables, 2048 words.
 pub fn apply_tables(
-    t: &[u64; 256],
+    t: &[u64],
     s: &[u8; 256],
     u: &[u8; 256],
     n: usize,
@@ -20,12 +28,15 @@ pub fn apply_tables(
     src: &[u8],
     dst: &mut [u8],
 ) -> u8
-    ensures number { λ r. ⌜ r ≡ blockRefusal n (length (now (src .entry))) (length (now (dst .entry))) ⌝ }
+    ensures number { λ r. ⌜ r ≡ lentRefusal n (length (now (src .entry))) (length (now (dst .entry))) (length (now (t .entry))) ⌝ }
     ensures block { λ r. ⌜ now (dst .exit) ≡ outcome r (lineBytes (tableParts (now (s .entry)) (now (u .entry)) (now (t .entry))) n (now (ks .entry)) (now (src .entry))) (now (dst .entry)) ⌝ }
 {
     let number = labyrinth::block_refusal(n, src.len(), dst.len());
     if number != 0 {
         return number;
+    }
+    if !is_lendable(t.len()) {
+        return 5;
     }
     let h = table_rounds::rounds(t, n, ks, transforms::enter(s, n, ks, src));
     transforms::leave(u, n, ks, labyrinth::exchange(h), dst);

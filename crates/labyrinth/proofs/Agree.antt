@@ -1,7 +1,8 @@
 -- Parts that agree on bytes and words give the same block map and the same expansion; the article's parts are sound, and those by the
--- merged table and by the matrix agree with them. What a working key's unused words hold matters to nothing.
+-- merged table, in either form, and by the matrix agree with them. What a working key's unused words hold matters to nothing.
 -- Assumes nothing.
 use mathlib.Core.Path.{_≡_, refl, sym, ap, ap₂, _∙_, fun-ext}
+use mathlib.Core.Bool.{true, false}
 use mathlib.Core.List.{List, [], _∷_, _++_}
 use Prim.Native.Nat.{ℕ, zero, suc, _+_, _-_, _*_, _/_, _%_, _^_, _≤_, _<_}
 use native.Mathlib.Omega.{arith}
@@ -9,22 +10,23 @@ use lib.Arith.{digits-lt}
 use lib.Bits.{bitXor}
 use lib.Dec.{ltb, ltb→lt}
 use lib.ListN.{length, getD}
-use Rattle.field.specs.Lists.{tabulate}
-use Rattle.field.specs.Words.{rotl, rotr, eachByte}
+use Rattle.field.specs.Lists.{tabulate, xorSum}
+use Rattle.field.specs.Words.{byte, rotl, rotr, eachByte}
 use Rattle.field.specs.Substitution.{sub, subInv, invert}
 use Rattle.field.specs.Mixing.{matrix, mixBy, mix}
-use Rattle.field.specs.Merged.{merged, lookup}
+use Rattle.field.specs.Merged.{entry, merged, lookup}
 use Rattle.field.specs.Published.{table1, row}
 use Rattle.field.proofs.Tests.{at}
-use Rattle.field.proofs.Lists.{tabulate-cong}
-use Rattle.field.proofs.Words.{each-cong}
+use Rattle.field.proofs.Lists.{length-tabulate, getD-tabulate, tabulate-cong}
+use Rattle.field.proofs.Sums.{xorSum-cong}
+use Rattle.field.proofs.Words.{byte-lt, each-cong}
 use Rattle.field.proofs.Mixing.{mix-lt}
 use Rattle.field.proofs.Substitution.{Undo, table1-undo, sub-invert}
 use Rattle.field.proofs.Merged.{lookup-merged}
 use Rattle.labyrinth.specs.Blocks.{Block, plus, minus, each, zip, words, bytes, load, store}
 use Rattle.labyrinth.specs.Cipher.{Parts, partsOf, article, P, SL, F, IMix, IT, FT, round, rounds, exchange, EF}
 use Rattle.labyrinth.specs.Keys.{half, order, register, delta, grow, expandedWords, E, U}
-use Rattle.labyrinth.specs.Working.{tableParts, matrixParts}
+use Rattle.labyrinth.specs.Working.{spread, wide, share, lookupIn, tableParts, matrixParts}
 use Rattle.labyrinth.proofs.Blocks.{Bytes, tabulate-small, good-words, bytes-small, pair}
 use Rattle.labyrinth.proofs.Undo.{IT-is, FT-is, OnWords, Sound, rounds-cong}
 
@@ -94,9 +96,57 @@ pub article-sound : Sound article
 unfolding article partsOf
 article-sound = record { undo = table1-undo; onWords = λ w. mix-lt row (eachByte (sub table1) w) }
 
+-- the merged table as it is lent
+pub merged-length : (g s : List ℕ) → length (merged g s) ≡ 256
+unfolding merged
+merged-length g s = length-tabulate 256 (entry g s)
+
+pub spread-length : (t : List ℕ) → length (spread t) ≡ 2048
+unfolding spread
+spread-length t = length-tabulate 2048 (λ i. rotl (getD t (i % 256) 0) (8 * (i / 256)))
+
+pub narrow : (t : List ℕ) → length t ≡ 256 → (w : ℕ) → lookupIn (wide t) t w ≡ lookupIn false t w
+unfolding wide
+narrow t e w = rw e
+
+-- the eight tables give what the one gives
+share-spread : (t : List ℕ) (b x : ℕ) → b < 8 → x < 2 ^ 8 → share true (spread t) b x ≡ share false t b x
+unfolding share spread
+share-spread t b x l m =
+    let q : (256 * b + x) % 256 ≡ x = omega arith in
+    let d : (256 * b + x) / 256 ≡ b = omega arith in
+    getD-tabulate 2048 (λ i. rotl (getD t (i % 256) 0) (8 * (i / 256))) 0 (256 * b + x) (omega arith) ∙ ap₂ (λ (y k : ℕ). rotl (getD t y 0) (8 * k)) q d
+
+pub spread-gives : (t : List ℕ) (w : ℕ) → lookupIn (wide (spread t)) (spread t) w ≡ lookupIn false t w
+unfolding wide lookupIn
+spread-gives t w =
+    rw (spread-length t) (xorSum-cong 8 (λ b. share true (spread t) b (byte w b)) (λ b. share false t b (byte w b)) (λ b l. share-spread t b (byte w b) l (byte-lt w b)))
+
+-- and that is the look-up
+pub lookup-is : (t : List ℕ) (w : ℕ) → lookupIn false t w ≡ lookup t w
+unfolding lookupIn share lookup
+lookup-is t w = refl
+
+-- look-up is the article's substitution and mixing
+pub lookup-agrees : (w : ℕ) → w < 2 ^ 64 → lookup (merged row table1) w ≡ article .SM w
+unfolding article partsOf
+lookup-agrees w l = lookup-merged row table1 (table1-undo .there) w
+
 pub table-agrees : Agree (tableParts table1 (invert table1) (merged row table1)) article
 unfolding tableParts article partsOf
-table-agrees = record { S = λ x l. refl; S⁻¹ = λ x l. sub-invert table1 x l; SM = λ w l. lookup-merged row table1 (table1-undo .there) w }
+table-agrees = record {
+  S = λ x l. refl;
+  S⁻¹ = λ x l. sub-invert table1 x l;
+  SM = λ w l. narrow (merged row table1) (merged-length row table1) w ∙ lookup-is (merged row table1) w ∙ lookup-agrees w l;
+}
+
+pub spread-agrees : Agree (tableParts table1 (invert table1) (spread (merged row table1))) article
+unfolding tableParts article partsOf
+spread-agrees = record {
+  S = λ x l. refl;
+  S⁻¹ = λ x l. sub-invert table1 x l;
+  SM = λ w l. spread-gives (merged row table1) w ∙ lookup-is (merged row table1) w ∙ lookup-agrees w l;
+}
 
 pub matrix-agrees : Agree (matrixParts table1 (invert table1) (matrix row)) article
 unfolding matrixParts article partsOf mix

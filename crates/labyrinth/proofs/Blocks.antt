@@ -129,7 +129,7 @@ load-store n s g =
 pub drop-bytes : (k : ℕ) (bs : List ℕ) → Bytes bs → Bytes (drop k bs)
 drop-bytes k bs h i = rw (getD-drop k bs i 0) (h (k + i))
 
-take-bytes : (k : ℕ) (bs : List ℕ) → Bytes bs → Bytes (take k bs)
+pub take-bytes : (k : ℕ) (bs : List ℕ) → Bytes bs → Bytes (take k bs)
 take-bytes zero bs h i = omega arith
 take-bytes (suc k) [] h i = omega arith
 take-bytes (suc k) (b ∷ bs) h zero = h zero
@@ -150,7 +150,7 @@ pub length-store : (n : ℕ) (s : Block) → length (store n s) ≡ 16 * n
 unfolding store
 length-store n s = length-append (bytes n (s .1)) (bytes n (s .0)) ∙ omega (arith, length-bytes n (s .1), length-bytes n (s .0))
 
-append-bytes : (xs bs : List ℕ) → Bytes xs → Bytes bs → Bytes (xs ++ bs)
+pub append-bytes : (xs bs : List ℕ) → Bytes xs → Bytes bs → Bytes (xs ++ bs)
 append-bytes [] bs ha hb i = hb i
 append-bytes (a ∷ xs) bs ha hb zero = ha zero
 append-bytes (a ∷ xs) bs ha hb (suc i) = append-bytes xs bs (λ i. ha (suc i)) hb i

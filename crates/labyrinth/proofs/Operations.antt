@@ -1,11 +1,12 @@
 -- The block operations' contracts: the three phases make the line, and the line by parts that agree with the article's is E or U.
 -- Assumes nothing.
-use mathlib.Core.Path.{_≡_, refl, sym, ap, ap₂, _∙_}
+use mathlib.Core.Path.{_≡_, refl, sym, ap, ap₂, _∙_, subst}
 use mathlib.Core.Bool.{Bool, true, false, _&&_}
+use mathlib.Core.Logic.{_⊎_, inl, inr}
 use mathlib.Core.List.{List, [], _∷_, _++_}
 use Prim.Native.Nat.{ℕ, zero, suc, _+_, _*_, _≤_, _<_}
 use native.Mathlib.Omega.{arith}
-use borrow.Author.Tests.{eq-eqb}
+use borrow.Author.Tests.{eq-eqb, ne-eqb}
 use lib.Bits.{bitXor}
 use lib.Dec.{eqb}
 use lib.ListN.{length, take, drop}
@@ -18,14 +19,14 @@ use Rattle.labyrinth.specs.declared.Halves.{Halves}
 use Rattle.labyrinth.specs.Blocks.{Block, load, store}
 use Rattle.labyrinth.specs.Cipher.{Parts, article, IMix, IT, FT, round, rounds, exchange, EF}
 use Rattle.labyrinth.specs.Keys.{half, E, U}
-use Rattle.labyrinth.specs.Refusals.{legal, blockRefusal, outcome}
-use Rattle.labyrinth.specs.Working.{Size, choose, held, blockIn, laid, fits, schedule, line, lineBytes, tableParts, matrixParts, way}
+use Rattle.labyrinth.specs.Refusals.{unless, legal, blockRefusal, outcome}
+use Rattle.labyrinth.specs.Working.{Size, choose, held, blockIn, laid, fits, schedule, line, lineBytes, spread, lendable, tableParts, matrixParts, lentRefusal, way}
 use Rattle.labyrinth.proofs.Sizes.{legal-size}
 use Rattle.labyrinth.proofs.Blocks.{length-zip, pair, Bytes, Small}
 use Rattle.labyrinth.proofs.Undo.{U-E, E-U}
 use Rattle.labyrinth.proofs.Room.{take-room}
 use Rattle.labyrinth.proofs.Refusals.{block-iff, legal-iff, legal-size-of}
-use Rattle.labyrinth.proofs.Agree.{Agree, EF-agree, article-sound, table-agrees, matrix-agrees}
+use Rattle.labyrinth.proofs.Agree.{Agree, EF-agree, article-sound, merged-length, spread-length, table-agrees, spread-agrees, matrix-agrees}
 use Rattle.labyrinth.proofs.Schedule.{line-E, line-U}
 
 -- what a block that is taken has
@@ -88,14 +89,14 @@ unfolding fits
 fits-taken n buffer s e = rw (legal-size n s, eq-eqb (length buffer) (16 * n) e)
 
 -- IT from the source, the rounds, the exchange and FT to the destination are the line
-pub phases : (p : Parts) (n : ℕ) (ks src dst : List ℕ) {h h′ h″ : Halves} {d : List ℕ} → Block-taken n (length src) (length dst)
+pub phases : (p : Parts) (n : ℕ) (ks src dst : List ℕ) (b : Bool) {h h′ h″ : Halves} {d : List ℕ} → Block-taken n (length src) (length dst) → b ≡ true
     → h ≡ held (choose (fits n src) (IT (p .S) n (half n ks 1, half n ks 0) (load n src)) ([], []))
-    → h′ ≡ choose (legal n) (laid n (rounds (p .SM) n (λ i. half n ks (i + 2)) 16 (blockIn n h)) h) h
+    → h′ ≡ choose b (laid n (rounds (p .SM) n (λ i. half n ks (i + 2)) 16 (blockIn n h)) h) h
     → h″ ≡ record { high = h′ .low; low = h′ .high }
     → d ≡ choose (fits n dst) (store n (FT (p .S⁻¹) n (half n ks 19, half n ks 18) (blockIn n h″))) dst
     → d ≡ lineBytes p n ks src
 unfolding choose lineBytes line EF blockIn
-phases p n ks src dst {h} {h′} {h″} {d} t e₁ e₂ e₃ e₄ =
+phases p n ks src dst b {h} {h′} {h″} {d} t eb e₁ e₂ e₃ e₄ =
     e₄ ∙ ap (λ (b : Bool). choose b (store n (FT (p .S⁻¹) n (half n ks 19, half n ks 18) (blockIn n h″))) dst) (fits-taken n dst (t .size) (t .destination))
     ∙ ap (λ (z : Block). store n (FT (p .S⁻¹) n (half n ks 19, half n ks 18) z)) (ap (blockIn n) e₃ ∙ ap exchange after)
   where
@@ -112,18 +113,64 @@ phases p n ks src dst {h} {h′} {h″} {d} t e₁ e₂ e₃ e₄ =
 
     after : blockIn n h′ ≡ sixteen first
     after =
-        ap (blockIn n) (e₂ ∙ ap (λ (b : Bool). choose b (laid n (sixteen (blockIn n h)) h) h) (legal-size n (t .size)) ∙ ap (λ (z : Block). laid n (sixteen z) h) entered)
+        ap (blockIn n) (e₂ ∙ ap (λ (b : Bool). choose b (laid n (sixteen (blockIn n h)) h) h) eb ∙ ap (λ (z : Block). laid n (sixteen z) h) entered)
         ∙ blockIn-laid n (sixteen first) h (length-rounds (p .SM) n (λ i. half n ks (i + 2)) 16 first (length-IT (p .S) n (half n ks 1, half n ks 0) (load n src)))
 
 -- ---- with what the tables hand out
 
-pub table-way : (back : Bool) (n : ℕ) (ws src dst : List ℕ) {s u t ks d : List ℕ} {r : ℕ} → s ≡ table1 → u ≡ invert table1 → t ≡ merged row table1
+-- the merged table, in either form
+abbrev pub HandedOut : List ℕ → Type 0
+HandedOut t = (t ≡ merged row table1) ⊎ (t ≡ spread (merged row table1))
+
+handed-agrees : {t : List ℕ} → HandedOut t → Agree (tableParts table1 (invert table1) t) article
+handed-agrees (inl e) = subst (λ (t : List ℕ). Agree (tableParts table1 (invert table1) t) article) (sym e) table-agrees
+handed-agrees (inr e) = subst (λ (t : List ℕ). Agree (tableParts table1 (invert table1) t) article) (sym e) spread-agrees
+
+pub handed-lendable : {t : List ℕ} → HandedOut t → lendable (length t) ≡ true
+unfolding lendable
+handed-lendable (inl e) = rw (e, merged-length row table1)
+handed-lendable (inr e) = rw (e, spread-length (merged row table1))
+
+-- the one law of the lent operation: with the tables that are handed out it gives E (false) and U (true)
+pub tables-give : (back : Bool) (n : ℕ) → Size n → (ws : List ℕ) {s u t ks : List ℕ} → s ≡ table1 → u ≡ invert table1 → HandedOut t → ks ≡ schedule n ws back
+    → (b : List ℕ) → lineBytes (tableParts s u t) n ks b ≡ way back n ws b
+tables-give back n size ws {s} {u} {t} {ks} es eu ht ek b =
+    ap₂ (λ (x y : List ℕ). lineBytes (tableParts x y t) n ks b) es eu
+    ∙ ap (λ (y : List ℕ). lineBytes (tableParts table1 (invert table1) t) n y b) ek
+    ∙ line-way (tableParts table1 (invert table1) t) (handed-agrees ht) back n size ws b
+
+-- the number of the lent operation, as the code finds it
+pub lent-refused : (n s d k : ℕ) {r : ℕ} → r ≡ blockRefusal n s d → (r ≡ 0 → ⊥) → r ≡ lentRefusal n s d k
+unfolding lentRefusal
+lent-refused n s d k e h = rw (ne-eqb (blockRefusal n s d) 0 (λ z. h (e ∙ z))) e
+
+pub lent-formless : (n s d k : ℕ) {r : ℕ} → r ≡ blockRefusal n s d → r ≡ 0 → lendable k ≡ false → 5 ≡ lentRefusal n s d k
+unfolding lentRefusal
+lent-formless n s d k e z f = rw (sym e ∙ z, f)
+
+pub lent-taken : (n s d k : ℕ) {r : ℕ} → r ≡ blockRefusal n s d → r ≡ 0 → lendable k ≡ true → 0 ≡ lentRefusal n s d k
+unfolding lentRefusal
+lent-taken n s d k e z f = rw (sym e ∙ z, f)
+
+-- what the rounds ask for
+pub lent-both : (n k : ℕ) → Size n → lendable k ≡ true → (legal n && lendable k) ≡ true
+lent-both n k s e = rw (legal-size n s, e)
+
+-- a table in one of its forms is no reason to refuse
+pub lent-number : (n s d k : ℕ) → lendable k ≡ true → lentRefusal n s d k ≡ blockRefusal n s d
+unfolding lentRefusal
+lent-number n s d k e = rw e (passed (blockRefusal n s d))
+  where
+    passed : (r : ℕ) → unless (eqb r 0) r 0 ≡ r
+    passed zero = refl
+    passed (suc r) = rw (ne-eqb (suc r) 0 (λ e. omega arith))
+
+pub table-way : (back : Bool) (n : ℕ) (ws src dst : List ℕ) {s u t ks d : List ℕ} {r : ℕ} → s ≡ table1 → u ≡ invert table1 → HandedOut t
     → ks ≡ schedule n ws back → r ≡ blockRefusal n (length src) (length dst) → d ≡ outcome r (lineBytes (tableParts s u t) n ks src) dst
     → d ≡ outcome r (way back n ws src) dst
-table-way back n ws src dst {s} {u} {t} {ks} {d} {r} es eu et ek e q =
-    by-way (tableParts table1 (invert table1) (merged row table1)) table-agrees back n ws src dst e
-    (q ∙ ap₂ (λ (x y : List ℕ). outcome r (lineBytes (tableParts x y t) n ks src) dst) es eu
-    ∙ ap₂ (λ (x y : List ℕ). outcome r (lineBytes (tableParts table1 (invert table1) x) n y src) dst) et ek)
+table-way back n ws src dst {s} {u} {t} {ks} {d} {r} es eu ht ek e q =
+    q ∙ outcome-cong r (lineBytes (tableParts s u t) n ks src) (way back n ws src) dst
+    (λ z. tables-give back n (block-taken n (length src) (length dst) e z .size) ws es eu ht ek src)
 
 pub matrix-way : (back : Bool) (n : ℕ) (ws src dst : List ℕ) {s u ks d : List ℕ} {m : List (List ℕ)} {r : ℕ} → s ≡ table1 → u ≡ invert table1 → m ≡ matrix row
     → ks ≡ schedule n ws back → r ≡ blockRefusal n (length src) (length dst) → d ≡ outcome r (lineBytes (matrixParts s u m) n ks src) dst
@@ -135,11 +182,7 @@ matrix-way back n ws src dst {s} {u} {ks} {d} {m} {r} es eu em ek e q =
 
 -- ---- the article's cipher, closed
 
--- the one law of the lent operation: with the tables that are handed out it gives E (false) and U (true)
-pub tables-give : (back : Bool) (n : ℕ) → Size n → (ws b : List ℕ) → lineBytes (tableParts table1 (invert table1) (merged row table1)) n (schedule n ws back) b ≡ way back n ws b
-tables-give = line-way (tableParts table1 (invert table1) (merged row table1)) table-agrees
-
--- and so with the matrix
+-- the line by the matrix
 pub matrix-gives : (back : Bool) (n : ℕ) → Size n → (ws b : List ℕ) → lineBytes (matrixParts table1 (invert table1) (matrix row)) n (schedule n ws back) b ≡ way back n ws b
 matrix-gives = line-way (matrixParts table1 (invert table1) (matrix row)) matrix-agrees
 

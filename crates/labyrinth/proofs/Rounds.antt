@@ -1,11 +1,13 @@
 -- Laws of the iterations as the code makes them: halves in two arrays, of which n words each are used.
 -- Assumes nothing.
 use mathlib.Core.Path.{_≡_, refl, sym, ap, ap₂, _∙_}
+use mathlib.Core.Bool.{Bool, true, false, _&&_}
 use mathlib.Core.List.{List, [], _∷_, _++_, append-assoc}
 use Prim.Native.Nat.{ℕ, zero, suc, _+_, _*_, _≤_, _<_}
 use native.Mathlib.Nat.{zero-add}
 use native.Mathlib.Numerals.{add-one}
 use native.Mathlib.Omega.{arith}
+use borrow.Author.Tests.{ne-eqb}
 use lib.Bits.{bitXor}
 use lib.ListN.{length, getD, take, drop, set, length-append, length-drop, take-append-drop}
 use lib.Seq.{take-at, drop-at, drop-cons, set-at, getD-at, getD-take, length-take-le}
@@ -18,7 +20,7 @@ use Rattle.labyrinth.specs.Blocks.{Block, plus, zip}
 use Rattle.labyrinth.specs.Cipher.{P, SL, F, round, rounds}
 use Rattle.labyrinth.specs.Keys.{half}
 use Rattle.labyrinth.specs.Refusals.{legal}
-use Rattle.labyrinth.specs.Working.{Size, wordsFrom, choose, blockIn, laid, both, onBlock}
+use Rattle.labyrinth.specs.Working.{Size, wordsFrom, choose, blockIn, laid, both, onBlock, lendable, wide, tableWords, lookupIn}
 use Rattle.labyrinth.proofs.Sizes.{sizes, legal-size, illegal}
 use Rattle.labyrinth.proofs.Blocks.{length-zip, getD-zip}
 use Rattle.labyrinth.proofs.Permutation.{P-take}
@@ -253,3 +255,38 @@ unfolding onBlock
 ran-legal SM n m e s ks h q =
     q ∙ sym (choose-legal m s (laid m (rounds SM m (λ i. half m ks (i + 2)) 16 (blockIn m h)) h) h)
     ∙ ap (λ (n : ℕ). choose (legal n) (laid n (rounds SM n (λ i. half n ks (i + 2)) 16 (blockIn n h)) h) h) (sym e)
+
+-- a table in its form
+form-wide : (t : List ℕ) (eight : Bool) → length t ≡ tableWords eight → wide t ≡ eight
+unfolding wide
+form-wide t false l = rw l
+form-wide t true l = rw l
+
+form-lendable : (t : List ℕ) (eight : Bool) → length t ≡ tableWords eight → lendable (length t) ≡ true
+unfolding lendable
+form-lendable t false l = rw l
+form-lendable t true l = rw l
+
+-- the sixteen with a lent table, which the code takes in its form
+pub ran-lent : (t : List ℕ) (eight : Bool) (n m : ℕ) → n ≡ m → Size m → length t ≡ tableWords eight → (ks : List ℕ) (h : Halves) {x : Halves}
+    → x ≡ onBlock m (rounds (lookupIn eight t) m (λ i. half m ks (i + 2)) 16) h
+    → x ≡ choose (legal n && lendable (length t)) (laid n (rounds (lookupIn (wide t) t) n (λ i. half n ks (i + 2)) 16 (blockIn n h)) h) h
+ran-lent t eight n m e s l ks h q =
+    ran-legal (lookupIn eight t) n m e s ks h q
+    ∙ ap₂ (λ (b w : Bool). choose b (laid n (rounds (lookupIn w t) n (λ i. half n ks (i + 2)) 16 (blockIn n h)) h) h) (sym taken) (sym (form-wide t eight l))
+  where
+    taken : (legal n && lendable (length t)) ≡ legal n
+    taken = rw (form-lendable t eight l, ap legal e ∙ legal-size m s)
+
+-- nothing is done for an illegal n, or by a table in no form
+pub unlent-size : {A : Type 0} (n k : ℕ) → (n ≡ 1 → ⊥) → (n ≡ 2 → ⊥) → (n ≡ 4 → ⊥) → (x y : A) → y ≡ choose (legal n && lendable k) x y
+unfolding choose
+unlent-size n k a b d x y = rw (illegal n a b d)
+
+pub unlent-words : {A : Type 0} (n k : ℕ) → (k ≡ 2048 → ⊥) → (k ≡ 256 → ⊥) → (x y : A) → y ≡ choose (legal n && lendable k) x y
+unfolding lendable choose
+unlent-words n k a b x y = rw (ne-eqb k 256 b, ne-eqb k 2048 a) (neither (legal n))
+  where
+    neither : (l : Bool) → y ≡ choose (l && false) x y
+    neither true = refl
+    neither false = refl

@@ -3,20 +3,19 @@
 -- Assumes nothing.
 use mathlib.Core.Path.{_≡_}
 use Prim.Native.Nat.{ℕ, _+_, _*_, _/_, _%_, _<_, _≤_}
-use mathlib.Core.Bool.{Bool, true, false, _&&_}
+use mathlib.Core.Bool.{Bool, true, false, _&&_, _||_}
 use mathlib.Core.List.{List, [], _∷_, _++_, reverse}
 use lib.Dec.{eqb, ltb}
 use lib.ListN.{getD, length, take, drop, replicate}
-use Rattle.field.specs.Lists.{tabulate, pick}
-use Rattle.field.specs.Words.{eachByte}
+use Rattle.field.specs.Lists.{tabulate, xorSum, pick}
+use Rattle.field.specs.Words.{byte, rotl, eachByte}
 use Rattle.field.specs.Substitution.{sub}
 use Rattle.field.specs.Mixing.{mixBy}
-use Rattle.field.specs.Merged.{lookup}
 use Rattle.labyrinth.specs.declared.Halves.{Halves}
 use Rattle.labyrinth.specs.Blocks.{Block, load, store}
 use Rattle.labyrinth.specs.Cipher.{Parts, article, EF}
 use Rattle.labyrinth.specs.Keys.{half, order, E, U}
-use Rattle.labyrinth.specs.Refusals.{legal}
+use Rattle.labyrinth.specs.Refusals.{unless, legal, blockRefusal}
 
 -- n is 1, 2 or 4, in a form that arithmetic reads
 pub record Size (n : ℕ) : Type 0 where
@@ -79,9 +78,43 @@ line p n ks s = EF p n (half n ks 1, half n ks 0) (λ i. half n ks (i + 2)) (hal
 unfoldable pub lineBytes : Parts → ℕ → List ℕ → List ℕ → List ℕ
 lineBytes p n ks b = store n (line p n ks (load n b))
 
--- the parts by tables: a substitution, its inverse and a merged table
+-- a merged table is lent as it is, 256 words, or as eight tables of 256 words one after another, table b with its words rotated left by
+-- 8b bits beforehand
+unfoldable pub spread : List ℕ → List ℕ
+spread t = tabulate 2048 (λ i. rotl (getD t (i % 256) 0) (8 * (i / 256)))
+
+unfoldable pub lendable : ℕ → Bool
+lendable words = eqb words 256 || eqb words 2048
+
+-- the eight pay for a run of so many bytes: more than 8 KiB, at n = 2 or 4 (a choice of ours)
+unfoldable pub pays : ℕ → ℕ → Bool
+pays n count = ltb 1 n && ltb 8192 count
+
+-- how many words it has, and whether it is the eight tables
+abbrev pub tableWords : Bool → ℕ
+tableWords false = 256
+tableWords true = 2048
+
+unfoldable pub wide : List ℕ → Bool
+wide t = eqb (length t) 2048
+
+-- what byte b of a word adds, its value being x, by a table or (true) by the eight
+unfoldable pub share : Bool → List ℕ → ℕ → ℕ → ℕ
+share false t b x = rotl (getD t x 0) (8 * b)
+share true t b x = getD t (256 * b + x) 0
+
+unfoldable pub lookupIn : Bool → List ℕ → ℕ → ℕ
+lookupIn eight t w = xorSum 8 (λ b. share eight t b (byte w b))
+
+-- the parts by tables: a substitution, its inverse and a merged table in either form
 unfoldable pub tableParts : List ℕ → List ℕ → List ℕ → Parts
-tableParts s u t = record { S = sub s; S⁻¹ = sub u; SM = lookup t }
+tableParts s u t = record { S = sub s; S⁻¹ = sub u; SM = lookupIn (wide t) t }
+
+-- the block operation with lent tables: a block's number, and then 5 for a table that is in neither form
+unfoldable pub lentRefusal : ℕ → ℕ → ℕ → ℕ → ℕ
+lentRefusal n source destination table =
+    let r = blockRefusal n source destination in
+    unless (eqb r 0) r (unless (lendable table) 5 0)
 
 -- the parts by a matrix: a substitution, its inverse and a matrix of eight rows
 unfoldable pub matrixParts : List ℕ → List ℕ → List (List ℕ) → Parts

@@ -1,6 +1,7 @@
 // Prints how operations answer to bad and good arguments. Standard input has cases of 23 bytes: the operation, n and l in 8 bytes
-// each and three lengths in 2 bytes each, lowest byte first. The line of a case: the operation, its number, and whether the key
-// returned is all zeros ('zeros'), the destination is as it was ('same'), or something was made ('made').
+// each and three lengths in 2 bytes each, lowest byte first: of the key; of the source and the destination of a block; of the start
+// block, the source and the destination of a run. The line of a case: the operation, its number, and whether the key returned is all
+// zeros ('zeros'), the destination is as it was ('same'), something was made ('made'), or a run of no bytes was taken ('empty').
 use labyrinth::WorkingKey;
 use libc::STDIN_FILENO;
 use libc::STDOUT_FILENO;
@@ -81,19 +82,43 @@ fn is_same(s: &[u8]) -> bool {
     true
 }
 
+// The line of an operation on a destination.
+fn print_result(name: &[u8], number: u8, dst: &[u8]) {
+    if number == 0 {
+        if dst.len() == 0 {
+            print_line(name, number, true, b" empty\n");
+            return;
+        }
+    }
+    print_line(name, number, is_same(dst), b" same\n");
+}
+
 fn block_case(op: u8, k: WorkingKey, src: &[u8], dst: &mut [u8]) {
     if op == 1 {
         let number = cipher::encipher_by_table(k, src, dst);
-        print_line(b"encipher table ", number, is_same(dst), b" same\n");
+        print_result(b"encipher table ", number, dst);
     } else if op == 2 {
         let number = matrix_cipher::encipher_by_matrix(k, src, dst);
-        print_line(b"encipher matrix ", number, is_same(dst), b" same\n");
+        print_result(b"encipher matrix ", number, dst);
     } else if op == 3 {
         let number = cipher::decipher_by_table(k, src, dst);
-        print_line(b"decipher table ", number, is_same(dst), b" same\n");
+        print_result(b"decipher table ", number, dst);
     } else {
         let number = matrix_cipher::decipher_by_matrix(k, src, dst);
-        print_line(b"decipher matrix ", number, is_same(dst), b" same\n");
+        print_result(b"decipher matrix ", number, dst);
+    }
+}
+
+fn run_case(op: u8, k: WorkingKey, start: &[u8], src: &[u8], dst: &mut [u8]) {
+    if op == 5 {
+        let number = cbc::seal(k, start, src, dst);
+        print_result(b"cbc seal ", number, dst);
+    } else if op == 6 {
+        let number = cbc::open(k, start, src, dst);
+        print_result(b"cbc open ", number, dst);
+    } else {
+        let number = ctr::run(k, start, 0, src, dst);
+        print_result(b"ctr ", number, dst);
     }
 }
 
@@ -116,12 +141,18 @@ fn take_case(case: &[u8]) {
     let given = front(&src, length_at(case, 17));
     if op == 0 {
         expand_case(n, l, given);
+        return;
+    }
+    let k = WorkingKey {
+        n: n,
+        words: [0x0123456789ABCDEF; 32],
+    };
+    let second = length_at(case, 19);
+    if op < 5 {
+        block_case(op, k, given, front_mut(&mut room, second));
     } else {
-        let k = WorkingKey {
-            n: n,
-            words: [0x0123456789ABCDEF; 32],
-        };
-        block_case(op, k, given, front_mut(&mut room, length_at(case, 19)));
+        let dst = front_mut(&mut room, length_at(case, 21));
+        run_case(op, k, given, front(&src, second), dst);
     }
 }
 

@@ -20,6 +20,9 @@ returns-2 c = search needs
 merged-table-requires : tie.Need-merged-table-requires
 merged-table-requires c κs = search needs
 
+spread-table-requires : tie.Need-spread-table-requires
+spread-table-requires c κs = search needs
+
 sbox-requires : tie.Need-sbox-requires
 sbox-requires c κs = search needs
 
@@ -29,9 +32,12 @@ sbox-inverse-requires c κs = search needs
 schedule-requires : tie.Need-schedule-requires
 schedule-requires c κs = search needs
 
+slice-aggregate-each-block : tie.Need-slice-aggregate-each-block
+slice-aggregate-each-block c = search needs
+
 each-block-requires : tie.Need-each-block-requires
 each-block-requires c κs =
-    let d = c .before .before .before .before .before .before .before .before .before .before in
+    let d = c .before .before .before .before .before .before .before .before .before .before .before .before in
     let legal = d .before .before .is-legal .ensures in
     (legal-size-of (d .before .before .before .before .before .args .n) (sym legal ∙ not-false _ (d .before .if1 .left)), omega arith)
 
@@ -49,9 +55,11 @@ sigourta-blocks-spec =
     returns
     returns-2
     merged-table-requires
+    spread-table-requires
     sbox-requires
     sbox-inverse-requires
     schedule-requires
+    slice-aggregate-each-block
     each-block-requires
     same-length
     returns-3)

@@ -1,6 +1,8 @@
 -- The tables are the published ones, so the line is E or U.
 -- Assumes nothing.
-use Rattle.labyrinth.proofs.Operations.{table-way}
+use mathlib.Core.Path.{_∙_}
+use mathlib.Core.Logic.{inl}
+use Rattle.labyrinth.proofs.Operations.{table-way, handed-lendable, lent-number}
 use borrow.Author.Needs.{needs}
 use Rattle.cipher.proofs.by_table.Statement.{statement}
 use Rattle.cipher.proofs.by_table.Tie as tie
@@ -17,6 +19,9 @@ sbox-inverse-requires c κs = search needs
 schedule-requires : tie.Need-schedule-requires
 schedule-requires c κs = search needs
 
+slice-aggregate-apply-tables : tie.Need-slice-aggregate-apply-tables
+slice-aggregate-apply-tables c = search needs
+
 apply-tables-requires : tie.Need-apply-tables-requires
 apply-tables-requires c κs = search needs
 
@@ -25,12 +30,14 @@ same-length c = search needs
 
 returns : tie.Need-returns
 returns c =
-    let a = c .before .before .before .before .before .before .before .before .before .before .before .before .before .before .args in
-    let applied = c .before .before .apply-tables .ensures in (
-      applied .0,
-      table-way (a .back) (a .k .n) (a .k .words) (a .src .now) (a .dst .now)
-          (c .before .before .before .before .before .before .before .before .before .before .sbox .ensures) (c .before .before .before .before .before .before .before .before .before .sbox-inverse .ensures)
-          (c .before .before .before .before .before .before .before .before .before .before .before .merged-table .ensures) (c .before .before .before .before .before .before .before .before .schedule .ensures) (applied .0) (applied .1),
+    let made = c .before .before .before .before .before .before .before .before in
+    let a = made .before .before .before .before .before .before .args in
+    let table = inl (made .before .before .before .merged-table .ensures) in
+    let applied = c .before .before .apply-tables .ensures in
+    let number = applied .0 ∙ lent-number (a .k .n) _ _ _ (handed-lendable table) in (
+      number,
+      table-way (a .back) (a .k .n) (a .k .words) (a .src .now) (a .dst .now) (made .before .before .sbox .ensures) (made .before .sbox-inverse .ensures)
+          table (made .schedule .ensures) number (applied .1),
     )
 
 pub by-table-spec : {M : Type 1} → statement M
@@ -41,6 +48,7 @@ by-table-spec =
     sbox-requires
     sbox-inverse-requires
     schedule-requires
+    slice-aggregate-apply-tables
     apply-tables-requires
     same-length
     returns)

@@ -9,8 +9,7 @@ use Rattle.field.specs.Published.{table1, row}
 use Rattle.labyrinth.specs.Cipher.{article}
 use Rattle.labyrinth.specs.Keys.{expandedWords}
 use Rattle.labyrinth.specs.Refusals.{padded}
-use Rattle.labyrinth.specs.Working.{tableParts}
-use Rattle.labyrinth.proofs.Agree.{table-agrees}
+use Rattle.labyrinth.proofs.Agree.{lookup-agrees}
 use Rattle.labyrinth.proofs.Refusals.{key-taken}
 use Rattle.labyrinth.proofs.Expansion.{product, refused-is, taken-is}
 use borrow.Author.Needs.{needs}
@@ -45,10 +44,9 @@ grow-requires c κs =
     (k .size, k .low, k .top)
 
 returns-2 : tie.Need-returns-2
-unfolding tableParts
 returns-2 c =
     let a = c .before .before .before .before .before .before .before .args in
-    taken-is (article .SM) (lookup (merged row table1)) (table-agrees .SM) (a .n) (a .l) (a .key .now)
+    taken-is (article .SM) (lookup (merged row table1)) lookup-agrees (a .n) (a .l) (a .key .now)
     (sym (c .before .before .before .before .before .expand-refusal .ensures) ∙ c .before .before .before .before .if1 .left)
     (c .grow .ensures (a .key .now) (c .before .load-key .ensures)
     ∙ ap (λ (t : List ℕ). padded (expandedWords (lookup t) (a .n) (a .l) (a .key .now))) (c .before .before .before .merged-table .ensures))

@@ -2,6 +2,7 @@
 -- Assumes nothing.
 use mathlib.Core.Path.{_≡_, sym, _∙_}
 use Rattle.labyrinth.specs.Working.{matrixParts}
+use Rattle.labyrinth.proofs.Sizes.{legal-size}
 use Rattle.labyrinth.proofs.Operations.{block-taken, refused-keeps, phases}
 use borrow.Author.Needs.{needs}
 use Rattle.matrix_cipher.proofs.apply_matrix.Statement.{statement}
@@ -33,9 +34,10 @@ unfolding matrixParts
 returns-2 c =
     let a = c .before .before .before .before .before .before .before .before .before .before .before .args in
     let number = c .before .before .before .before .before .before .before .before .block-refusal .ensures in
-    let none = c .before .before .before .before .before .before .before .if1 .left in (
+    let none = c .before .before .before .before .before .before .before .if1 .left in
+    let taken = block-taken (a .n) _ _ number none in (
       sym none ∙ number,
-      phases (matrixParts (a .s .now) (a .u .now) (a .m)) (a .n) (a .ks .now) (a .src .now) (a .dst .now) (block-taken (a .n) _ _ number none)
+      phases (matrixParts (a .s .now) (a .u .now) (a .m)) (a .n) (a .ks .now) (a .src .now) (a .dst .now) _ taken (legal-size (a .n) (taken .size))
           (c .before .before .before .before .before .before .enter .ensures) (c .before .before .before .before .before .rounds .ensures)
           (c .before .before .before .before .exchange .ensures) (c .before .before .leave .ensures),
     )

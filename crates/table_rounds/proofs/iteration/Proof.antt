@@ -2,6 +2,8 @@
 -- Assumes nothing.
 use mathlib.Core.Path.{sym}
 use native.Mathlib.Omega.{arith}
+use Rattle.field.specs.Merged.{lookup}
+use Rattle.labyrinth.specs.Working.{lookupIn, share}
 use Rattle.labyrinth.proofs.Sizes.{size-one, size-two, size-four}
 use Rattle.labyrinth.proofs.Rounds.{iterated, choose-illegal}
 use borrow.Author.Needs.{needs}
@@ -24,19 +26,22 @@ round-requires-3 : tie.Need-round-requires-3
 round-requires-3 c κs = search needs
 
 returns : tie.Need-returns
+unfolding lookup lookupIn share
 returns c =
-    let s = c .before .before .before .before .before .before .before .before in
-    iterated _ (s .args .n) 1 (omega arith) size-one _ (s .args .k) _ _ (omega arith) (c .before .before .before .before .before .before .alone .ensures) (c .round .ensures)
+    let s = c .before .before .before .before .before .before .before .before .before in
+    iterated _ (s .args .n) 1 (omega arith) size-one _ (s .args .k) _ _ (omega arith) (c .before .before .before .before .before .before .before .alone .ensures) (c .round .ensures)
 
 returns-2 : tie.Need-returns-2
+unfolding lookup lookupIn share
 returns-2 c =
-    let s = c .before .before .before .before .before .before .before .before .before in
-    iterated _ (s .args .n) 2 (omega arith) size-two _ (s .args .k) _ _ (omega arith) (c .before .before .before .before .before .before .before .alone .ensures) (c .round2 .ensures)
+    let s = c .before .before .before .before .before .before .before .before .before .before in
+    iterated _ (s .args .n) 2 (omega arith) size-two _ (s .args .k) _ _ (omega arith) (c .before .before .before .before .before .before .before .before .alone .ensures) (c .round2 .ensures)
 
 returns-3 : tie.Need-returns-3
+unfolding lookup lookupIn share
 returns-3 c =
-    let s = c .before .before .before .before .before .before .before .before .before .before in
-    iterated _ (s .args .n) 4 (omega arith) size-four _ (s .args .k) _ _ (omega arith) (c .before .before .before .before .before .before .before .before .alone .ensures) (c .round3 .ensures)
+    let s = c .before .before .before .before .before .before .before .before .before .before .before in
+    iterated _ (s .args .n) 4 (omega arith) size-four _ (s .args .k) _ _ (omega arith) (c .before .before .before .before .before .before .before .before .before .alone .ensures) (c .round3 .ensures)
 
 returns-4 : tie.Need-returns-4
 returns-4 c = sym (choose-illegal (c .before .before .before .before .before .args .n) (λ e. omega arith) (λ e. omega arith) (λ e. omega arith) _ _)

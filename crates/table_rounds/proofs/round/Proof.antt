@@ -3,17 +3,17 @@
 use mathlib.Core.Path.{_≡_, refl}
 use Prim.Native.Nat.{_-_, _≤_}
 use native.Mathlib.Omega.{arith}
-use Rattle.field.specs.Merged.{lookup}
+use Rattle.labyrinth.specs.Working.{lookupIn}
 use Rattle.labyrinth.proofs.Rounds.{Turned, turned-none, turned-more, turned-all}
 use borrow.Author.Needs.{needs}
 use Rattle.table_rounds.proofs.round.Statement.{statement}
 use Rattle.table_rounds.proofs.round.Tie as tie
 
 abbrev Inv-loop : tie.InvT-loop
-Inv-loop t c n ks at l₀ r₀ y j₀ l r j = (j ≤ n) × Turned (lookup t) n y l₀ r₀ j l r
+Inv-loop t eight c n ks at l₀ r₀ y j₀ l r j = (j ≤ n) × Turned (lookupIn eight t) n y l₀ r₀ j l r
 
 abbrev μ-loop : tie.MeasureT-loop
-μ-loop t c n ks at l₀ r₀ y j₀ l r j = n - j
+μ-loop t eight c n ks at l₀ r₀ y j₀ l r j = n - j
 
 add-key-requires : tie.Need-add-key-requires Inv-loop μ-loop
 add-key-requires c κs = search needs
@@ -34,7 +34,7 @@ element-copy-out-f-word-2 : tie.Need-element-copy-out-f-word-2 Inv-loop μ-loop
 element-copy-out-f-word-2 c = search needs
 
 f-word-requires : tie.Need-f-word-requires Inv-loop μ-loop
-f-word-requires c κs = (c .before .before .before .before .before .before .before .pre .0, omega arith)
+f-word-requires c κs = let p = c .before .before .before .before .before .before .before .before .pre in (p .0, omega arith, p .5)
 
 mul-l : tie.Need-mul-l Inv-loop μ-loop
 mul-l c = search needs
@@ -63,12 +63,12 @@ loop-less c = search needs
 loop-again : tie.Need-loop-again Inv-loop μ-loop
 loop-again c =
     let l = c .before .before .before .before .before .before .loop in
-    let s = c .before .before .before .before .before .before .before .before .before in
+    let s = c .before .before .before .before .before .before .before .before .before .before in
     (omega arith, turned-more _ _ _ _ _ (l .j) (omega arith) (omega arith) (c .before .f-word .ensures) (s .pre .2) refl (l .inv .1))
 
 returns : tie.Need-returns Inv-loop μ-loop
 returns c =
-    let s = c .before .before .before .before in
+    let s = c .before .before .before .before .before in
     let e : c .before .loop .j ≡ s .args .n = omega arith in
     turned-all _ _ _ _ _ _ (omega arith) (omega arith) (c .before .before .add-key .ensures) e (c .before .loop .inv .1)
 

@@ -1,0 +1,221 @@
+// Cipher block chaining (NIST SP 800-38A, section 6.2): sealing and opening a run of whole blocks under a working key.
+//
+// A run's tables and schedule are made once, and lent to every block.
+use labyrinth::WorkingKey;
+ghost use mathlib.Core.Path.{_≡_};
+ghost use mathlib.Core.Bool.{true};
+ghost use mathlib.Core.List.{_++_};
+ghost use Prim.Native.Nat.{_*_, _%_};
+ghost use lib.ListN.{length, take, drop};
+ghost use Rattle.labyrinth.specs.Cipher.{article};
+ghost use Rattle.labyrinth.specs.Keys.{E, U};
+ghost use Rattle.labyrinth.specs.Refusals.{outcome};
+ghost use Rattle.labyrinth.specs.Working.{Size, lendable, tableParts, lineBytes};
+ghost use Rattle.modes.specs.Strings.{xorBytes};
+ghost use Rattle.modes.specs.Cbc.{cbcSeal, cbcOpen};
+ghost use Rattle.modes.specs.Refusals.{cbcRefusal, firstOf};
+
+// The number of a run, by n and the lengths of the start block, the source and the destination. No product is made
+// before n is known to be small.
+pub fn cbc_refusal(n: usize, start: usize, source: usize, destination: usize) -> u8
+    ensures { λ r. ⌜ r ≡ cbcRefusal n start source destination ⌝ }
+{
+    if !labyrinth::is_legal(n) {
+        return 1;
+    }
+    if start != 16 * n {
+        return 6;
+    }
+    if source % (16 * n) != 0 {
+        return 4;
+    }
+    if destination != source {
+        return 5;
+    }
+    0
+}
+
+// Seals a block after the sealed block that chain holds. Then chain holds the new one.
+fn seal_block(
+    t: &[u64],
+    s: &[u8; 256],
+    u: &[u8; 256],
+    n: usize,
+    ks: &[u64; 80],
+    chain: &mut [u8],
+    src: &[u8],
+    dst: &mut [u8],
+)
+    requires { ⌜ Size n × (length (now chain) ≡ 16 * n) × (length (now src) ≡ 16 * n) × (length (now dst) ≡ 16 * n) × (lendable (length (now t)) ≡ true) ⌝ }
+    ensures next { λ _. ⌜ now (chain .exit) ≡ now (dst .exit) ⌝ }
+    ensures block { λ _. ⌜ now (dst .exit) ≡ lineBytes (tableParts (now (s .entry)) (now (u .entry)) (now (t .entry))) n (now (ks .entry)) (xorBytes (now (src .entry)) (now (chain .entry))) ⌝ }
+{
+    strings::xor_to(dst, src, chain);
+    cipher::apply_tables(t, s, u, n, ks, dst, chain);
+    strings::copy_into(dst, chain);
+}
+
+// Opens a block after the sealed block that chain holds. Then chain holds the block as it was sealed.
+fn open_block(
+    t: &[u64],
+    s: &[u8; 256],
+    u: &[u8; 256],
+    n: usize,
+    ks: &[u64; 80],
+    chain: &mut [u8],
+    src: &[u8],
+    dst: &mut [u8],
+)
+    requires { ⌜ Size n × (length (now chain) ≡ 16 * n) × (length (now src) ≡ 16 * n) × (length (now dst) ≡ 16 * n) × (lendable (length (now t)) ≡ true) ⌝ }
+    ensures next { λ _. ⌜ now (chain .exit) ≡ take (length (now (chain .entry))) (now (src .entry)) ++ drop (length (now (src .entry))) (now (chain .entry)) ⌝ }
+    ensures block { λ _. ⌜ now (dst .exit) ≡ xorBytes (lineBytes (tableParts (now (s .entry)) (now (u .entry)) (now (t .entry))) n (now (ks .entry)) (now (src .entry))) (now (chain .entry)) ⌝ }
+{
+    let size = src.len();
+    let mut opened = strings::room();
+    cipher::apply_tables(t, s, u, n, ks, src, &mut opened[..size]);
+    strings::xor_to(dst, chain, &opened[..size]);
+    strings::copy_into(chain, src);
+}
+
+// Seals whole blocks after the start block that chain holds.
+fn seal_blocks(
+    t: &[u64],
+    s: &[u8; 256],
+    u: &[u8; 256],
+    n: usize,
+    ks: &[u64; 80],
+    chain: &mut [u8],
+    src: &[u8],
+    dst: &mut [u8],
+)
+    requires { ⌜ Size n × (length (now chain) ≡ 16 * n) × (length (now src) % (16 * n) ≡ 0) × (length (now dst) ≡ length (now src)) × (lendable (length (now t)) ≡ true) ⌝ }
+    ensures { λ _. ⌜ now (dst .exit) ≡ cbcSeal (lineBytes (tableParts (now (s .entry)) (now (u .entry)) (now (t .entry))) n (now (ks .entry))) (16 * n) (now (chain .entry)) (now (src .entry)) ⌝ }
+{
+    let size = 16 * n;
+    let mut at = 0usize;
+    while at < src.len() {
+        let end = at + size;
+        seal_block(t, s, u, n, ks, chain, &src[at..end], &mut dst[at..end]);
+        at = end;
+    }
+}
+
+// Opens whole blocks after the start block that chain holds.
+fn open_blocks(
+    t: &[u64],
+    s: &[u8; 256],
+    u: &[u8; 256],
+    n: usize,
+    ks: &[u64; 80],
+    chain: &mut [u8],
+    src: &[u8],
+    dst: &mut [u8],
+)
+    requires { ⌜ Size n × (length (now chain) ≡ 16 * n) × (length (now src) % (16 * n) ≡ 0) × (length (now dst) ≡ length (now src)) × (lendable (length (now t)) ≡ true) ⌝ }
+    ensures { λ _. ⌜ now (dst .exit) ≡ cbcOpen (lineBytes (tableParts (now (s .entry)) (now (u .entry)) (now (t .entry))) n (now (ks .entry))) (16 * n) (now (chain .entry)) (now (src .entry)) ⌝ }
+{
+    let size = 16 * n;
+    let mut at = 0usize;
+    while at < src.len() {
+        let end = at + size;
+        open_block(t, s, u, n, ks, chain, &src[at..end], &mut dst[at..end]);
+        at = end;
+    }
+}
+
+// Seals a run with the tables lent.
+fn seal_run(
+    t: &[u64],
+    s: &[u8; 256],
+    u: &[u8; 256],
+    n: usize,
+    ks: &[u64; 80],
+    start: &[u8],
+    src: &[u8],
+    dst: &mut [u8],
+)
+    requires { ⌜ Size n × (length (now start) ≡ 16 * n) × (length (now src) % (16 * n) ≡ 0) × (length (now dst) ≡ length (now src)) × (lendable (length (now t)) ≡ true) ⌝ }
+    ensures { λ _. ⌜ now (dst .exit) ≡ cbcSeal (lineBytes (tableParts (now (s .entry)) (now (u .entry)) (now (t .entry))) n (now (ks .entry))) (16 * n) (now (start .entry)) (now (src .entry)) ⌝ }
+{
+    let size = start.len();
+    let mut chain = strings::in_room(start);
+    seal_blocks(t, s, u, n, ks, &mut chain[..size], src, dst);
+}
+
+// Opens a run with the tables lent.
+fn open_run(
+    t: &[u64],
+    s: &[u8; 256],
+    u: &[u8; 256],
+    n: usize,
+    ks: &[u64; 80],
+    start: &[u8],
+    src: &[u8],
+    dst: &mut [u8],
+)
+    requires { ⌜ Size n × (length (now start) ≡ 16 * n) × (length (now src) % (16 * n) ≡ 0) × (length (now dst) ≡ length (now src)) × (lendable (length (now t)) ≡ true) ⌝ }
+    ensures { λ _. ⌜ now (dst .exit) ≡ cbcOpen (lineBytes (tableParts (now (s .entry)) (now (u .entry)) (now (t .entry))) n (now (ks .entry))) (16 * n) (now (start .entry)) (now (src .entry)) ⌝ }
+{
+    let size = start.len();
+    let mut chain = strings::in_room(start);
+    open_blocks(t, s, u, n, ks, &mut chain[..size], src, dst);
+}
+
+// Seals src to dst, after the start block.
+pub fn seal(k: WorkingKey, start: &[u8], src: &[u8], dst: &mut [u8]) -> u8
+    ensures number { λ r. ⌜ r ≡ cbcRefusal (k .n) (length (now (start .entry))) (length (now (src .entry))) (length (now (dst .entry))) ⌝ }
+    ensures run { λ r. ⌜ now (dst .exit) ≡ outcome r (cbcSeal (E article (k .n) (k .words)) (16 * k .n) (now (start .entry)) (now (src .entry))) (now (dst .entry)) ⌝ }
+{
+    let n = k.n;
+    let number = cbc_refusal(n, start.len(), src.len(), dst.len());
+    if number != 0 {
+        return number;
+    }
+    let t = tables::merged_table();
+    let s = tables::sbox();
+    let u = tables::sbox_inverse();
+    let ks = schedule::schedule(k, false);
+    if spread::pays(n, src.len()) {
+        let eight = spread::spread_table(&t);
+        seal_run(&eight, &s, &u, n, &ks, start, src, dst);
+    } else {
+        seal_run(&t, &s, &u, n, &ks, start, src, dst);
+    }
+    0
+}
+
+// Opens src to dst, after the start block.
+pub fn open(k: WorkingKey, start: &[u8], src: &[u8], dst: &mut [u8]) -> u8
+    ensures number { λ r. ⌜ r ≡ cbcRefusal (k .n) (length (now (start .entry))) (length (now (src .entry))) (length (now (dst .entry))) ⌝ }
+    ensures run { λ r. ⌜ now (dst .exit) ≡ outcome r (cbcOpen (U article (k .n) (k .words)) (16 * k .n) (now (start .entry)) (now (src .entry))) (now (dst .entry)) ⌝ }
+{
+    let n = k.n;
+    let number = cbc_refusal(n, start.len(), src.len(), dst.len());
+    if number != 0 {
+        return number;
+    }
+    let t = tables::merged_table();
+    let s = tables::sbox();
+    let u = tables::sbox_inverse();
+    let ks = schedule::schedule(k, true);
+    if spread::pays(n, src.len()) {
+        let eight = spread::spread_table(&t);
+        open_run(&eight, &s, &u, n, &ks, start, src, dst);
+    } else {
+        open_run(&t, &s, &u, n, &ks, start, src, dst);
+    }
+    0
+}
+
+// Seals src to mid and, if that was not refused, opens mid to dst: then dst holds what src holds.
+pub fn seal_and_open(k: WorkingKey, start: &[u8], src: &[u8], mid: &mut [u8], dst: &mut [u8]) -> u8
+    ensures number { λ r. ⌜ r ≡ firstOf (cbcRefusal (k .n) (length (now (start .entry))) (length (now (src .entry))) (length (now (mid .entry)))) (cbcRefusal (k .n) (length (now (start .entry))) (length (now (mid .entry))) (length (now (dst .entry)))) ⌝ }
+    ensures sealed { λ _. ⌜ now (mid .exit) ≡ outcome (cbcRefusal (k .n) (length (now (start .entry))) (length (now (src .entry))) (length (now (mid .entry)))) (cbcSeal (E article (k .n) (k .words)) (16 * k .n) (now (start .entry)) (now (src .entry))) (now (mid .entry)) ⌝ }
+    ensures opened { λ r. ⌜ now (dst .exit) ≡ outcome r (now (src .entry)) (now (dst .entry)) ⌝ }
+{
+    let number = seal(k, start, src, mid);
+    if number != 0 {
+        return number;
+    }
+    open(k, start, mid, dst)
+}

@@ -1,0 +1,151 @@
+// Counter mode over the cipher's block operation. Sealing and opening are the same.
+//
+// `run` makes the tables and the schedule once and lends them down.
+use labyrinth::WorkingKey;
+ghost use mathlib.Core.Path.{_≡_};
+ghost use mathlib.Core.Bool.{true};
+ghost use Prim.Native.Nat.{_+_, _*_, _≤_, min};
+ghost use lib.ListN.{length};
+ghost use Rattle.labyrinth.specs.Cipher.{article};
+ghost use Rattle.labyrinth.specs.Keys.{E};
+ghost use Rattle.labyrinth.specs.Refusals.{outcome};
+ghost use Rattle.labyrinth.specs.Working.{Size, lendable, tableParts, lineBytes};
+ghost use Rattle.modes.specs.Strings.{xorBytes};
+ghost use Rattle.modes.specs.Ctr.{ctr};
+ghost use Rattle.modes.specs.Refusals.{ctrRefusal, firstOf};
+
+// The number of a CTR run, by n and the lengths of the start block, the source and the destination.
+pub fn ctr_refusal(n: usize, start: usize, source: usize, destination: usize) -> u8
+    ensures { λ r. ⌜ r ≡ ctrRefusal n start source destination ⌝ }
+{
+    if !labyrinth::is_legal(n) {
+        return 1;
+    }
+    if start != 16 * n {
+        return 6;
+    }
+    if destination != source {
+        return 5;
+    }
+    0
+}
+
+// Where the block that begins at a place of a source ends: the last one may be short.
+fn block_end(at: usize, size: usize, source: usize) -> usize
+    requires { ⌜ at ≤ source ⌝ }
+    ensures { λ r. ⌜ r ≡ min (at + size) source ⌝ }
+{
+    if size < source - at {
+        at + size
+    } else {
+        source
+    }
+}
+
+// One block, the last one perhaps short: src XOR the enciphered counter block.
+fn ctr_block(
+    t: &[u64],
+    s: &[u8; 256],
+    u: &[u8; 256],
+    n: usize,
+    ks: &[u64; 80],
+    counter: &[u8],
+    src: &[u8],
+    dst: &mut [u8],
+)
+    requires { ⌜ Size n × (length (now counter) ≡ 16 * n) × (length (now src) ≤ 16 * n) × (length (now dst) ≡ length (now src)) × (lendable (length (now t)) ≡ true) ⌝ }
+    ensures { λ _. ⌜ now (dst .exit) ≡ xorBytes (now (src .entry)) (lineBytes (tableParts (now (s .entry)) (now (u .entry)) (now (t .entry))) n (now (ks .entry)) (now (counter .entry))) ⌝ }
+{
+    let size = counter.len();
+    let mut stream = strings::room();
+    cipher::apply_tables(t, s, u, n, ks, counter, &mut stream[..size]);
+    strings::xor_to(dst, src, &stream[..size]);
+}
+
+// Every block of src, from the counter block on that counter holds.
+fn ctr_blocks(
+    t: &[u64],
+    s: &[u8; 256],
+    u: &[u8; 256],
+    n: usize,
+    ks: &[u64; 80],
+    counter: &mut [u8],
+    src: &[u8],
+    dst: &mut [u8],
+)
+    requires { ⌜ Size n × (length (now counter) ≡ 16 * n) × (length (now dst) ≡ length (now src)) × (lendable (length (now t)) ≡ true) ⌝ }
+    ensures { λ _. ⌜ now (dst .exit) ≡ ctr (lineBytes (tableParts (now (s .entry)) (now (u .entry)) (now (t .entry))) n (now (ks .entry))) (16 * n) (now (counter .entry)) 0 (now (src .entry)) ⌝ }
+{
+    let size = counter.len();
+    let mut at = 0usize;
+    while at < src.len() {
+        let end = block_end(at, size, src.len());
+        ctr_block(t, s, u, n, ks, counter, &src[at..end], &mut dst[at..end]);
+        strings::add_into(counter, 1);
+        at = end;
+    }
+}
+
+// A run with the tables lent: the first counter block is start plus q.
+fn ctr_run(
+    t: &[u64],
+    s: &[u8; 256],
+    u: &[u8; 256],
+    n: usize,
+    ks: &[u64; 80],
+    start: &[u8],
+    q: u64,
+    src: &[u8],
+    dst: &mut [u8],
+)
+    requires { ⌜ Size n × (length (now start) ≡ 16 * n) × (length (now dst) ≡ length (now src)) × (lendable (length (now t)) ≡ true) ⌝ }
+    ensures { λ _. ⌜ now (dst .exit) ≡ ctr (lineBytes (tableParts (now (s .entry)) (now (u .entry)) (now (t .entry))) n (now (ks .entry))) (16 * n) (now (start .entry)) q (now (src .entry)) ⌝ }
+{
+    let size = start.len();
+    let mut counter = strings::in_room(start);
+    strings::add_into(&mut counter[..size], q);
+    ctr_blocks(t, s, u, n, ks, &mut counter[..size], src, dst);
+}
+
+// Seals or opens src to dst, from block q of the run that start begins.
+pub fn run(k: WorkingKey, start: &[u8], q: u64, src: &[u8], dst: &mut [u8]) -> u8
+    ensures number { λ r. ⌜ r ≡ ctrRefusal (k .n) (length (now (start .entry))) (length (now (src .entry))) (length (now (dst .entry))) ⌝ }
+    ensures run { λ r. ⌜ now (dst .exit) ≡ outcome r (ctr (E article (k .n) (k .words)) (16 * k .n) (now (start .entry)) q (now (src .entry))) (now (dst .entry)) ⌝ }
+{
+    let n = k.n;
+    let number = ctr_refusal(n, start.len(), src.len(), dst.len());
+    if number != 0 {
+        return number;
+    }
+    let t = tables::merged_table();
+    let s = tables::sbox();
+    let u = tables::sbox_inverse();
+    let ks = schedule::schedule(k, false);
+    if spread::pays(n, src.len()) {
+        let eight = spread::spread_table(&t);
+        ctr_run(&eight, &s, &u, n, &ks, start, q, src, dst);
+    } else {
+        ctr_run(&t, &s, &u, n, &ks, start, q, src, dst);
+    }
+    0
+}
+
+// Seals src to mid and, if that was not refused, opens mid to dst, which then holds what src holds.
+pub fn run_twice(
+    k: WorkingKey,
+    start: &[u8],
+    q: u64,
+    src: &[u8],
+    mid: &mut [u8],
+    dst: &mut [u8],
+) -> u8
+    ensures number { λ r. ⌜ r ≡ firstOf (ctrRefusal (k .n) (length (now (start .entry))) (length (now (src .entry))) (length (now (mid .entry)))) (ctrRefusal (k .n) (length (now (start .entry))) (length (now (mid .entry))) (length (now (dst .entry)))) ⌝ }
+    ensures sealed { λ r. ⌜ now (mid .exit) ≡ outcome (ctrRefusal (k .n) (length (now (start .entry))) (length (now (src .entry))) (length (now (mid .entry)))) (ctr (E article (k .n) (k .words)) (16 * k .n) (now (start .entry)) q (now (src .entry))) (now (mid .entry)) ⌝ }
+    ensures opened { λ r. ⌜ now (dst .exit) ≡ outcome r (now (src .entry)) (now (dst .entry)) ⌝ }
+{
+    let number = run(k, start, q, src, mid);
+    if number != 0 {
+        return number;
+    }
+    run(k, start, q, mid, dst)
+}

@@ -1,0 +1,10 @@
+pub mod Strings
+pub mod Parts
+pub mod Maps
+pub mod Cbc
+pub mod Ctr
+pub mod Refusals
+pub mod Again
+pub mod Used
+pub mod Lent
+pub mod Twice

@@ -1,0 +1,4 @@
+pub mod Strings
+pub mod Cbc
+pub mod Ctr
+pub mod Refusals

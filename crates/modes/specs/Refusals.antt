@@ -1,0 +1,26 @@
+-- What the runs turn away, with document 01's numbers in its order of checks.
+-- Assumes nothing.
+use Prim.Native.Nat.{ℕ, _*_, _%_}
+use lib.Dec.{eqb}
+use Rattle.labyrinth.specs.Refusals.{unless, legal}
+
+-- the lengths of a CBC run: 6 if the start block isn't 16n bytes, 4 if the source isn't whole blocks, 5 if the destination isn't as long
+unfoldable pub cbcLengths : ℕ → ℕ → ℕ → ℕ → ℕ
+cbcLengths n start source destination =
+    unless (eqb start (16 * n)) 6 (unless (eqb (source % (16 * n)) 0) 4 (unless (eqb destination source) 5 0))
+
+-- the lengths of a CTR run: 6 and 5 as in CBC; any source is taken
+unfoldable pub ctrLengths : ℕ → ℕ → ℕ → ℕ → ℕ
+ctrLengths n start source destination = unless (eqb start (16 * n)) 6 (unless (eqb destination source) 5 0)
+
+-- CBC, sealing and opening: 1 if n is illegal, then the lengths
+unfoldable pub cbcRefusal : ℕ → ℕ → ℕ → ℕ → ℕ
+cbcRefusal n start source destination = unless (legal n) 1 (cbcLengths n start source destination)
+
+-- CTR: 1 if n is illegal, then the lengths
+unfoldable pub ctrRefusal : ℕ → ℕ → ℕ → ℕ → ℕ
+ctrRefusal n start source destination = unless (legal n) 1 (ctrLengths n start source destination)
+
+-- two calls, the second only if the first was not refused
+unfoldable pub firstOf : ℕ → ℕ → ℕ
+firstOf first second = unless (eqb first 0) first second

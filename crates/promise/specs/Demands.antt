@@ -1,0 +1,106 @@
+-- The user's demands 1, 2 and 3, sentence by sentence: each is quoted, and what stands for it is stated over the definitions. Where a
+-- sentence speaks of what operations do, the operation's contract says it, and is named. The tape comes with its own crate.
+-- Assumes nothing.
+use mathlib.Core.Path.{_≡_}
+use mathlib.Core.Logic.{_⊎_, _↔_}
+use mathlib.Core.List.{List}
+use Prim.Native.Nat.{ℕ, _*_, _%_, _^_, _≤_, _<_}
+use lib.Bits.{bitXor}
+use lib.ListN.{length, getD, replicate}
+use Rattle.field.specs.Lists.{iterate}
+use Rattle.field.specs.Words.{rotl}
+use Rattle.field.specs.Mixing.{mix, scale}
+use Rattle.field.specs.Published.{row}
+use Rattle.labyrinth.specs.Cipher.{article}
+use Rattle.labyrinth.specs.Keys.{E, U}
+use Rattle.labyrinth.specs.Refusals.{blockRefusal, expandRefusal, outcome, expansion}
+use Rattle.modes.specs.Cbc.{cbcSeal, cbcOpen}
+use Rattle.modes.specs.Ctr.{ctr}
+use Rattle.modes.specs.Refusals.{cbcRefusal, ctrRefusal}
+
+-- n is 1, 2 or 4; l is 2, 3 or 4
+abbrev pub Legal : ℕ → Type 0
+Legal n = (n ≡ 1) ⊎ ((n ≡ 2) ⊎ (n ≡ 4))
+
+abbrev pub LegalLength : ℕ → Type 0
+LegalLength l = (l ≡ 2) ⊎ ((l ≡ 3) ⊎ (l ≡ 4))
+
+-- a list of bytes, a list of words of 64 bits
+abbrev pub Bytes : List ℕ → Type 0
+Bytes bs = (i : ℕ) → getD bs i 0 < 2 ^ 8
+
+abbrev pub Words : List ℕ → Type 0
+Words ws = (i : ℕ) → getD ws i 0 < 2 ^ 64
+
+-- ---- Demand 1
+
+-- "Every key, block, run and command tape that document 01 admits is taken, and the work on it stays inside the lent memory and ends."
+-- That the work stays inside and ends is what the checker proves of every function. Taken: the number is 0 exactly when the paper admits.
+abbrev pub KeysTaken : Type 0
+KeysTaken = (n l key : ℕ) → (expandRefusal n l key ≡ 0) ↔ (Legal n × LegalLength l × (key ≡ 8 * (n * l)))
+
+abbrev pub BlocksTaken : Type 0
+BlocksTaken = (n source destination : ℕ) → (blockRefusal n source destination ≡ 0) ↔ (Legal n × (source ≡ 16 * n) × (destination ≡ 16 * n))
+
+abbrev pub CbcTaken : Type 0
+CbcTaken =
+    (n start source destination : ℕ) → (cbcRefusal n start source destination ≡ 0)
+    ↔ (Legal n × (start ≡ 16 * n) × (source % (16 * n) ≡ 0) × (destination ≡ source))
+
+abbrev pub CtrTaken : Type 0
+CtrTaken = (n start source destination : ℕ) → (ctrRefusal n start source destination ≡ 0) ↔ (Legal n × (start ≡ 16 * n) × (destination ≡ source))
+
+-- "Everything else, from any caller, is refused with document 01's number in its order of checks, and what the refusal returns and leaves
+-- in each buffer is fixed there." The numbers in their order are expandRefusal, blockRefusal, cbcRefusal and ctrRefusal, and the contracts of
+-- expansion::expand, of the four block operations, of cbc::seal, cbc::open and ctr::run return them for all arguments. What is left:
+abbrev pub BuffersKept : Type 0
+BuffersKept = (number : ℕ) (result before : List ℕ) → (number ≡ 0 → ⊥) → outcome number result before ≡ before
+
+abbrev pub KeysBlank : Type 0
+KeysBlank =
+    (SM : ℕ → ℕ) (n l : ℕ) (key : List ℕ) (number : ℕ) → (number ≡ 0 → ⊥)
+    → expansion SM n l key number ≡ record { number = number; key = record { n = 0; words = replicate 32 0 } }
+
+-- ---- Demand 2
+
+-- "Expansion, enciphering and deciphering give, bit for bit, the Labyrinth of the article (source document 000) at blocks of 128, 256 and 512
+-- bits with three key lengths each." The contracts: expansion::expand gives `expansion (article .SM)`, cipher::encipher_by_table and
+-- matrix_cipher::encipher_by_matrix give `E article`, the deciphering ones `U article`, for all arguments.
+-- "Chained and counter runs are CBC and CTR of NIST SP 800-38A over it, sealing and opening." The contracts: cbc::seal gives `cbcSeal (E
+-- article ..)`, cbc::open gives `cbcOpen (U article ..)`, ctr::run gives `ctr (E article ..)`, in blocks of 16n bytes.
+
+-- ---- Demand 3
+
+-- "Whatever words a working key of a legal size holds, expanded or made by hand, let E be the article's block map under its enciphering
+-- subkeys, and U the same under its deciphering ones, as document 01 lists them. For every admitted block, enciphering by matrix and by merged
+-- table both give E of it, deciphering by either gives U of it": the four contracts above. "And E and U undo each other":
+abbrev pub EAndUUndo : Type 0
+EAndUUndo =
+    (n : ℕ) (ws b : List ℕ) → Words ws → length b ≡ 16 * n → Bytes b → (U article n ws (E article n ws b) ≡ b) × (E article n ws (U article n ws b) ≡ b)
+
+-- "For every CBC or CTR sealing that document 01 admits, the empty one too, every admitted opening of its result, by the same kind of run and
+-- under the same working key, start block and, in CTR, offset, gives back the source byte for byte." Of the operations themselves the contracts
+-- of cbc::seal_and_open and ctr::run_twice say it.
+abbrev pub CbcOpensAgain : Type 0
+CbcOpensAgain =
+    (n : ℕ) (ws start p : List ℕ) (sealed opened : ℕ) → Words ws → Bytes start → Bytes p
+    → cbcRefusal n (length start) (length p) sealed ≡ 0 → cbcRefusal n (length start) sealed opened ≡ 0
+    → cbcOpen (U article n ws) (16 * n) start (cbcSeal (E article n ws) (16 * n) start p) ≡ p
+
+abbrev pub CtrOpensAgain : Type 0
+CtrOpensAgain =
+    (n : ℕ) (ws start : List ℕ) (q : ℕ) (p : List ℕ) (sealed opened : ℕ)
+    → ctrRefusal n (length start) (length p) sealed ≡ 0 → ctrRefusal n (length start) sealed opened ≡ 0
+    → ctr (E article n ws) (16 * n) start q (ctr (E article n ws) (16 * n) start q p) ≡ p
+
+-- "For all words of 64 bits, the article's mixing of the XOR of two is the XOR of the two mixed,"
+abbrev pub MixingOfXor : Type 0
+MixingOfXor = (a b : ℕ) → mix row (bitXor a b) ≡ bitXor (mix row a) (mix row b)
+
+-- "mixing a word rotated by whole bytes gives the mixed word rotated alike,"
+abbrev pub MixingRotated : Type 0
+MixingRotated = (w k : ℕ) → w < 2 ^ 64 → k ≤ 8 → mix row (rotl w (8 * k)) ≡ rotl (mix row w) (8 * k)
+
+-- "and mixing a word eight times gives that word with every byte multiplied by 46 (hexadecimal) in the field of polynomial 12D."
+abbrev pub MixingEightTimes : Type 0
+MixingEightTimes = (w : ℕ) → iterate 8 (mix row) w ≡ scale 0x46 w

@@ -1,0 +1,75 @@
+// Operations on byte strings that the modes are made of, for strings of any lengths, and room for a block.
+ghost use mathlib.Core.Path.{_≡_};
+ghost use mathlib.Core.List.{_++_};
+ghost use Prim.Native.Nat.{_+_, _≤_, min};
+ghost use lib.ListN.{length, take, drop, replicate};
+ghost use Rattle.modes.specs.Strings.{xorBytes, number, string};
+
+// The lesser of two lengths.
+fn lesser(a: usize, b: usize) -> usize
+    ensures { λ r. ⌜ r ≡ min a b ⌝ }
+{
+    if a < b { a } else { b }
+}
+
+// A byte as a word.
+fn wide(x: u8) -> u64
+    ensures { λ r. ⌜ r ≡ x ⌝ }
+{
+    x as u64
+}
+
+// Room for a block.
+pub fn room() -> [u8; 64]
+    ensures long { λ r. ⌜ 64 ≡ length r ⌝ }
+    ensures zeros { λ r. ⌜ r ≡ replicate 64 0 ⌝ }
+{
+    [0; 64]
+}
+
+// Copies s to d, as far as both go. Bytes of d past s stay.
+pub fn copy_into(d: &mut [u8], s: &[u8])
+    ensures { λ _. ⌜ now (d .exit) ≡ take (length (now (d .entry))) (now (s .entry)) ++ drop (length (now (s .entry))) (now (d .entry)) ⌝ }
+{
+    let m = lesser(s.len(), d.len());
+    let mut i = 0usize;
+    while i < m {
+        d[i] = s[i];
+        i += 1;
+    }
+}
+
+// A block at the front of a room, zeros behind it; of a longer string the first 64 bytes.
+pub fn in_room(block: &[u8]) -> [u8; 64]
+    ensures { λ r. ⌜ r ≡ take 64 (now (block .entry)) ++ drop (length (now (block .entry))) (replicate 64 0) ⌝ }
+{
+    let mut r = [0u8; 64];
+    copy_into(&mut r, block);
+    r
+}
+
+// Writes the XOR of a and b to d, as far as all three go. Bytes of d past that stay.
+pub fn xor_to(d: &mut [u8], a: &[u8], b: &[u8])
+    ensures { λ _. ⌜ now (d .exit) ≡ take (length (now (d .entry))) (xorBytes (now (a .entry)) (now (b .entry))) ++ drop (length (xorBytes (now (a .entry)) (now (b .entry)))) (now (d .entry)) ⌝ }
+{
+    let m = lesser(d.len(), lesser(a.len(), b.len()));
+    let mut i = 0usize;
+    while i < m {
+        d[i] = a[i] ^ b[i];
+        i += 1;
+    }
+}
+
+// Adds v to the number that c is, modulo 2 to as many bits as c has. From the last byte up, and no further than the carry goes.
+pub fn add_into(c: &mut [u8], v: u64)
+    ensures { λ _. ⌜ now (c .exit) ≡ string (length (now (c .entry))) (number (now (c .entry)) + v) ⌝ }
+{
+    let mut i = c.len();
+    let mut carry = v;
+    while 0 < i && carry != 0 {
+        i -= 1;
+        let t = wide(c[i]) + carry % 256;
+        c[i] = (t % 256) as u8;
+        carry = carry / 256 + t / 256;
+    }
+}
