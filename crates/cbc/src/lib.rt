@@ -13,27 +13,7 @@ ghost use Rattle.labyrinth.specs.Refusals.{outcome};
 ghost use Rattle.labyrinth.specs.Working.{Size, lendable, tableParts, lineBytes};
 ghost use Rattle.modes.specs.Strings.{xorBytes};
 ghost use Rattle.modes.specs.Cbc.{cbcSeal, cbcOpen};
-ghost use Rattle.modes.specs.Refusals.{cbcRefusal, firstOf};
-
-// The number of a run, by n and the lengths of the start block, the source and the destination. No product is made
-// before n is known to be small.
-pub fn cbc_refusal(n: usize, start: usize, source: usize, destination: usize) -> u8
-    ensures { λ r. ⌜ r ≡ cbcRefusal n start source destination ⌝ }
-{
-    if !labyrinth::is_legal(n) {
-        return 1;
-    }
-    if start != 16 * n {
-        return 6;
-    }
-    if source % (16 * n) != 0 {
-        return 4;
-    }
-    if destination != source {
-        return 5;
-    }
-    0
-}
+ghost use Rattle.modes.specs.Refusals.{cbcRefusal};
 
 // Seals a block after the sealed block that chain holds. Then chain holds the new one.
 fn seal_block(
@@ -167,7 +147,7 @@ pub fn seal(k: WorkingKey, start: &[u8], src: &[u8], dst: &mut [u8]) -> u8
     ensures run { λ r. ⌜ now (dst .exit) ≡ outcome r (cbcSeal (E article (k .n) (k .words)) (16 * k .n) (now (start .entry)) (now (src .entry))) (now (dst .entry)) ⌝ }
 {
     let n = k.n;
-    let number = cbc_refusal(n, start.len(), src.len(), dst.len());
+    let number = run_refusals::cbc_refusal(n, start.len(), src.len(), dst.len());
     if number != 0 {
         return number;
     }
@@ -190,7 +170,7 @@ pub fn open(k: WorkingKey, start: &[u8], src: &[u8], dst: &mut [u8]) -> u8
     ensures run { λ r. ⌜ now (dst .exit) ≡ outcome r (cbcOpen (U article (k .n) (k .words)) (16 * k .n) (now (start .entry)) (now (src .entry))) (now (dst .entry)) ⌝ }
 {
     let n = k.n;
-    let number = cbc_refusal(n, start.len(), src.len(), dst.len());
+    let number = run_refusals::cbc_refusal(n, start.len(), src.len(), dst.len());
     if number != 0 {
         return number;
     }
@@ -205,17 +185,4 @@ pub fn open(k: WorkingKey, start: &[u8], src: &[u8], dst: &mut [u8]) -> u8
         open_run(&t, &s, &u, n, &ks, start, src, dst);
     }
     0
-}
-
-// Seals src to mid and, if that was not refused, opens mid to dst: then dst holds what src holds.
-pub fn seal_and_open(k: WorkingKey, start: &[u8], src: &[u8], mid: &mut [u8], dst: &mut [u8]) -> u8
-    ensures number { λ r. ⌜ r ≡ firstOf (cbcRefusal (k .n) (length (now (start .entry))) (length (now (src .entry))) (length (now (mid .entry)))) (cbcRefusal (k .n) (length (now (start .entry))) (length (now (mid .entry))) (length (now (dst .entry)))) ⌝ }
-    ensures sealed { λ _. ⌜ now (mid .exit) ≡ outcome (cbcRefusal (k .n) (length (now (start .entry))) (length (now (src .entry))) (length (now (mid .entry)))) (cbcSeal (E article (k .n) (k .words)) (16 * k .n) (now (start .entry)) (now (src .entry))) (now (mid .entry)) ⌝ }
-    ensures opened { λ r. ⌜ now (dst .exit) ≡ outcome r (now (src .entry)) (now (dst .entry)) ⌝ }
-{
-    let number = seal(k, start, src, mid);
-    if number != 0 {
-        return number;
-    }
-    open(k, start, mid, dst)
 }

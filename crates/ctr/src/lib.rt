@@ -12,23 +12,7 @@ ghost use Rattle.labyrinth.specs.Refusals.{outcome};
 ghost use Rattle.labyrinth.specs.Working.{Size, lendable, tableParts, lineBytes};
 ghost use Rattle.modes.specs.Strings.{xorBytes};
 ghost use Rattle.modes.specs.Ctr.{ctr};
-ghost use Rattle.modes.specs.Refusals.{ctrRefusal, firstOf};
-
-// The number of a CTR run, by n and the lengths of the start block, the source and the destination.
-pub fn ctr_refusal(n: usize, start: usize, source: usize, destination: usize) -> u8
-    ensures { λ r. ⌜ r ≡ ctrRefusal n start source destination ⌝ }
-{
-    if !labyrinth::is_legal(n) {
-        return 1;
-    }
-    if start != 16 * n {
-        return 6;
-    }
-    if destination != source {
-        return 5;
-    }
-    0
-}
+ghost use Rattle.modes.specs.Refusals.{ctrRefusal};
 
 // Where the block that begins at a place of a source ends: the last one may be short.
 fn block_end(at: usize, size: usize, source: usize) -> usize
@@ -113,7 +97,7 @@ pub fn run(k: WorkingKey, start: &[u8], q: u64, src: &[u8], dst: &mut [u8]) -> u
     ensures run { λ r. ⌜ now (dst .exit) ≡ outcome r (ctr (E article (k .n) (k .words)) (16 * k .n) (now (start .entry)) q (now (src .entry))) (now (dst .entry)) ⌝ }
 {
     let n = k.n;
-    let number = ctr_refusal(n, start.len(), src.len(), dst.len());
+    let number = run_refusals::ctr_refusal(n, start.len(), src.len(), dst.len());
     if number != 0 {
         return number;
     }
@@ -128,24 +112,4 @@ pub fn run(k: WorkingKey, start: &[u8], q: u64, src: &[u8], dst: &mut [u8]) -> u
         ctr_run(&t, &s, &u, n, &ks, start, q, src, dst);
     }
     0
-}
-
-// Seals src to mid and, if that was not refused, opens mid to dst, which then holds what src holds.
-pub fn run_twice(
-    k: WorkingKey,
-    start: &[u8],
-    q: u64,
-    src: &[u8],
-    mid: &mut [u8],
-    dst: &mut [u8],
-) -> u8
-    ensures number { λ r. ⌜ r ≡ firstOf (ctrRefusal (k .n) (length (now (start .entry))) (length (now (src .entry))) (length (now (mid .entry)))) (ctrRefusal (k .n) (length (now (start .entry))) (length (now (mid .entry))) (length (now (dst .entry)))) ⌝ }
-    ensures sealed { λ r. ⌜ now (mid .exit) ≡ outcome (ctrRefusal (k .n) (length (now (start .entry))) (length (now (src .entry))) (length (now (mid .entry)))) (ctr (E article (k .n) (k .words)) (16 * k .n) (now (start .entry)) q (now (src .entry))) (now (mid .entry)) ⌝ }
-    ensures opened { λ r. ⌜ now (dst .exit) ≡ outcome r (now (src .entry)) (now (dst .entry)) ⌝ }
-{
-    let number = run(k, start, q, src, mid);
-    if number != 0 {
-        return number;
-    }
-    run(k, start, q, mid, dst)
 }

@@ -80,7 +80,7 @@ EAndUUndo =
 
 -- "For every CBC or CTR sealing that document 01 admits, the empty one too, every admitted opening of its result, by the same kind of run and
 -- under the same working key, start block and, in CTR, offset, gives back the source byte for byte." Of the operations themselves the contracts
--- of cbc::seal_and_open and ctr::run_twice say it.
+-- of round_trips::cbc_there_and_back and round_trips::ctr_there_and_back say it.
 abbrev pub CbcOpensAgain : Type 0
 CbcOpensAgain =
     (n : ℕ) (ws start p : List ℕ) (sealed opened : ℕ) → Words ws → Bytes start → Bytes p

@@ -10,8 +10,8 @@ use Rattle.modes.specs.Refusals.{ctrRefusal}
 use Rattle.modes.proofs.Again.{ctr-again}
 use Rattle.modes.proofs.Twice.{stopped, went-on}
 use borrow.Author.Needs.{needs}
-use Rattle.ctr.proofs.run_twice.Statement.{statement}
-use Rattle.ctr.proofs.run_twice.Tie as tie
+use Rattle.round_trips.proofs.ctr_there_and_back.Statement.{statement}
+use Rattle.round_trips.proofs.ctr_there_and_back.Tie as tie
 
 -- the first call's number, the second's by the length of mid, and the run
 abbrev first : tie.Start → ℕ
@@ -54,8 +54,8 @@ returns-2 c =
     went-on (first s) (second s) (over s) (over s) (a .src .now) (a .mid .now) (a .dst .now) (one .ensures .0) (one .ensures .1) passed (one .kept .1 .1 .1 .1 .0)
     (ctr-again (a .k .n) (a .k .words) (a .start .now) (a .src .now) (length (a .mid .now)) (a .q) (one .ensures .0) passed) (two .ensures .0) (two .ensures .1)
 
-pub run-twice-spec : {M : Type 1} → statement M
-run-twice-spec =
+pub ctr-there-and-back-spec : {M : Type 1} → statement M
+ctr-there-and-back-spec =
     tie.close
     (tie.spec
     run-requires

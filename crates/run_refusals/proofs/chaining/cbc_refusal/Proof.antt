@@ -9,8 +9,8 @@ use Rattle.labyrinth.specs.Refusals.{legal}
 use Rattle.labyrinth.proofs.Refusals.{legal-size-of}
 use Rattle.modes.specs.Refusals.{cbcRefusal, cbcLengths}
 use borrow.Author.Needs.{needs}
-use Rattle.cbc.proofs.cbc_refusal.Statement.{statement}
-use Rattle.cbc.proofs.cbc_refusal.Tie as tie
+use Rattle.run_refusals.proofs.chaining.cbc_refusal.Statement.{statement}
+use Rattle.run_refusals.proofs.chaining.cbc_refusal.Tie as tie
 
 is-legal-requires : tie.Need-is-legal-requires
 is-legal-requires c κs = search needs

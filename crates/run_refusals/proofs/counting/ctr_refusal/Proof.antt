@@ -8,8 +8,8 @@ use Rattle.labyrinth.specs.Refusals.{legal}
 use Rattle.labyrinth.proofs.Refusals.{legal-size-of}
 use Rattle.modes.specs.Refusals.{ctrLengths, ctrRefusal}
 use borrow.Author.Needs.{needs}
-use Rattle.ctr.proofs.ctr_refusal.Statement.{statement}
-use Rattle.ctr.proofs.ctr_refusal.Tie as tie
+use Rattle.run_refusals.proofs.counting.ctr_refusal.Statement.{statement}
+use Rattle.run_refusals.proofs.counting.ctr_refusal.Tie as tie
 
 is-legal-requires : tie.Need-is-legal-requires
 is-legal-requires c κs = search needs

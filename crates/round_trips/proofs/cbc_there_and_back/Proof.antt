@@ -10,10 +10,10 @@ use Rattle.modes.specs.Cbc.{cbcSeal, cbcOpen}
 use Rattle.modes.specs.Refusals.{cbcRefusal}
 use Rattle.modes.proofs.Again.{cbc-again}
 use Rattle.modes.proofs.Twice.{stopped, went-on}
-use Rattle.cbc.proofs.Words.{words-small}
+use Rattle.round_trips.proofs.Words.{words-small}
 use borrow.Author.Needs.{needs}
-use Rattle.cbc.proofs.seal_and_open.Statement.{statement}
-use Rattle.cbc.proofs.seal_and_open.Tie as tie
+use Rattle.round_trips.proofs.cbc_there_and_back.Statement.{statement}
+use Rattle.round_trips.proofs.cbc_there_and_back.Tie as tie
 
 -- the first call's number, the second's by the length of mid, and the two runs
 abbrev first : tie.Start → ℕ
@@ -63,7 +63,7 @@ returns-2 c =
     (λ i. omega (arith, c .before .before .before .before .before .before .before .before .before .before .before .before .shared-slice-known2 .given i))
     (one .ensures .0) passed) (two .ensures .0) (two .ensures .1)
 
-pub seal-and-open-spec : {M : Type 1} → statement M
-seal-and-open-spec =
+pub cbc-there-and-back-spec : {M : Type 1} → statement M
+cbc-there-and-back-spec =
     tie.close
     (tie.spec seal-requires same-length returns open-requires same-length-2 same-length-3 returns-2)
