@@ -9,6 +9,7 @@
 
 /* The proved code. A slice is a pointer and a length. */
 uint8_t sigourta_blocks(size_t n, const uint64_t words[32], uint8_t back, const uint8_t *src, size_t src_length, uint8_t *dst, size_t dst_length);
+uint8_t sigourta_expand(size_t n, size_t l, const uint8_t *key, size_t key_length, uint64_t words[32]);
 uint8_t sigourta_cbc_seal(size_t n, const uint64_t words[32], const uint8_t *start, size_t start_length, const uint8_t *src, size_t src_length, uint8_t *dst, size_t dst_length);
 uint8_t sigourta_cbc_open(size_t n, const uint64_t words[32], const uint8_t *start, size_t start_length, const uint8_t *src, size_t src_length, uint8_t *dst, size_t dst_length);
 uint8_t sigourta_ctr(size_t n, const uint64_t words[32], const uint8_t *start, size_t start_length, uint64_t q, const uint8_t *src, size_t src_length, uint8_t *dst, size_t dst_length);
@@ -91,19 +92,35 @@ static void long_runs(void) {
         }
 }
 
-/* what a short run costs beyond its share of a long one */
+/* ns for the quickest of the three key lengths */
+static double expansion(size_t n) {
+    static uint64_t expanded[32];
+    double best = 0;
+    for (size_t l = 2; l <= 4; l++)
+        for (int pass = 0; pass < 2000; pass++) {
+            double began = now();
+            sigourta_expand(n, l, input, 8 * n * l, expanded);
+            keep(&best, now() - began);
+        }
+    return best;
+}
+
+/* a short run beside what it may cost: 1.5 times its blocks' share of a long run, and one expansion */
 static void short_runs(void) {
-    printf("Short runs: ns a run; and in brackets its blocks' share of a long run.\n");
-    for (int kind = 2; kind < KINDS; kind++)
-        for (int size = 0; size < 3; size++) {
+    printf("Short runs: ns a run, and in brackets 1.5 times its share of a long run plus one expansion.\n");
+    for (int size = 0; size < 3; size++) {
+        double expand = expansion((size_t)1 << size);
+        printf("%d  expansion: %.0f\n", 1 << size, expand);
+        for (int kind = 2; kind < KINDS; kind++) {
             printf("%d  %-11s", 1 << size, KIND[kind]);
             for (size_t length = (size_t)16 << size; length <= 1024; length *= 4) {
-                double us = 0;
+                double us = 0, share = long_run[kind][size] * (double)(length / ((size_t)16 << size));
                 for (int pass = 0; pass < 2000; pass++) keep(&us, time_us(kind, 1 << size, length));
-                printf("  %zu bytes: %.0f (%.0f)", length, us, long_run[kind][size] * (double)(length / ((size_t)16 << size)));
+                printf("  %zu bytes: %.0f (%.0f)", length, us, 1.5 * share + expand);
             }
             printf("\n");
         }
+    }
 }
 
 int main(void) {

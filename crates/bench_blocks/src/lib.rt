@@ -61,6 +61,16 @@ fn key(n: usize, words: &[u64; 32]) -> WorkingKey {
     }
 }
 
+// Expands a key of l half-blocks.
+#[no_mangle]
+pub extern "C" fn sigourta_expand(n: usize, l: usize, key: &[u8], words: &mut [u64; 32]) -> u8 {
+    let x = expansion::expand(n, l, key);
+    let k = x.key;
+    let w = k.words;
+    *words = w;
+    x.number
+}
+
 #[no_mangle]
 pub extern "C" fn sigourta_cbc_seal(
     n: usize,

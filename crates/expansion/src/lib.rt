@@ -10,20 +10,12 @@ ghost use Prim.Native.Nat.{ℕ, _+_, _-_, _*_, _≤_, _<_};
 ghost use lib.Bits.{bitXor};
 ghost use lib.ListN.{length, getD, take};
 ghost use Rattle.field.specs.Lists.{tabulate, xorSum};
-ghost use Rattle.field.specs.Words.{join};
 ghost use Rattle.field.specs.Merged.{lookup};
 ghost use Rattle.labyrinth.specs.Blocks.{zip, words};
 ghost use Rattle.labyrinth.specs.Cipher.{article};
 ghost use Rattle.labyrinth.specs.Keys.{half, register, delta, expandedWords};
 ghost use Rattle.labyrinth.specs.Refusals.{expandRefusal, expansion, padded};
 ghost use Rattle.labyrinth.specs.Working.{Size, room};
-
-fn wide(b: u8) -> u64
-    ensures same { λ r. ⌜ r ≡ b ⌝ }
-    ensures small { λ r. ⌜ r < 256 ⌝ }
-{
-    b as u64
-}
 
 // Where word i of half-block k_j stands.
 fn place(n: usize, j: usize, i: usize) -> usize
@@ -34,20 +26,6 @@ fn place(n: usize, j: usize, i: usize) -> usize
     j * n + i
 }
 
-// Word i of a key.
-fn key_word(key: &[u8], i: usize) -> u64
-    requires { ⌜ (i < 16) × (8 * i + 8 ≤ length (now key)) ⌝ }
-    ensures { λ r. ⌜ r ≡ join 8 (λ b. getD (now (key .entry)) (8 * i + b) 0) ⌝ }
-{
-    let mut r = 0u64;
-    let mut b = 0usize;
-    while b < 8 {
-        r = (wide(key[8 * i + b]) << (8 * b)) | r;
-        b += 1;
-    }
-    r
-}
-
 // The m words of a key, with zeros behind them.
 fn load_key(m: usize, key: &[u8]) -> [u64; 32]
     requires { ⌜ (m ≤ 16) × (length (now key) ≡ 8 * m) ⌝ }
@@ -56,7 +34,7 @@ fn load_key(m: usize, key: &[u8]) -> [u64; 32]
     let mut w = [0u64; 32];
     let mut i = 0usize;
     while i < m {
-        w[i] = key_word(key, i);
+        w[i] = buffers::load_word(key, 8 * i);
         i += 1;
     }
     w

@@ -122,6 +122,12 @@ phases p n ks src dst b {h} {h′} {h″} {d} t eb e₁ e₂ e₃ e₄ =
 abbrev pub HandedOut : List ℕ → Type 0
 HandedOut t = (t ≡ merged row table1) ⊎ (t ≡ spread (merged row table1))
 
+pub handed-one : {t : List ℕ} → t ≡ merged row table1 → HandedOut t
+handed-one e = inl e
+
+pub handed-eight : {t x : List ℕ} → t ≡ merged row table1 → x ≡ spread t → HandedOut x
+handed-eight e h = inr (h ∙ ap spread e)
+
 handed-agrees : {t : List ℕ} → HandedOut t → Agree (tableParts table1 (invert table1) t) article
 handed-agrees (inl e) = subst (λ (t : List ℕ). Agree (tableParts table1 (invert table1) t) article) (sym e) table-agrees
 handed-agrees (inr e) = subst (λ (t : List ℕ). Agree (tableParts table1 (invert table1) t) article) (sym e) spread-agrees
@@ -138,6 +144,15 @@ tables-give back n size ws {s} {u} {t} {ks} es eu ht ek b =
     ap₂ (λ (x y : List ℕ). lineBytes (tableParts x y t) n ks b) es eu
     ∙ ap (λ (y : List ℕ). lineBytes (tableParts table1 (invert table1) t) n y b) ek
     ∙ line-way (tableParts table1 (invert table1) t) (handed-agrees ht) back n size ws b
+
+-- so as a block map, and in whatever is made of one and of a copy of a start block
+pub lent-way : (back : Bool) (n : ℕ) → Size n → (ws : List ℕ) {s u t ks : List ℕ} → s ≡ table1 → u ≡ invert table1 → HandedOut t → ks ≡ schedule n ws back
+    → lineBytes (tableParts s u t) n ks ≡ way back n ws
+lent-way back n size ws es eu ht ek = λ i b. tables-give back n size ws es eu ht ek b i
+
+pub lent-run : (back : Bool) (n : ℕ) → Size n → (ws : List ℕ) {s u t ks : List ℕ} → s ≡ table1 → u ≡ invert table1 → HandedOut t → ks ≡ schedule n ws back
+    → (run : (List ℕ → List ℕ) → List ℕ → List ℕ) (start : List ℕ) {c d : List ℕ} → c ≡ start → d ≡ run (lineBytes (tableParts s u t) n ks) c → d ≡ run (way back n ws) start
+lent-run back n size ws es eu ht ek run start ec e = e ∙ ap₂ run (lent-way back n size ws es eu ht ek) ec
 
 -- the number of the lent operation, as the code finds it
 pub lent-refused : (n s d k : ℕ) {r : ℕ} → r ≡ blockRefusal n s d → (r ≡ 0 → ⊥) → r ≡ lentRefusal n s d k

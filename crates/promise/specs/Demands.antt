@@ -1,5 +1,5 @@
 -- The user's demands 1, 2 and 3, sentence by sentence: each is quoted, and what stands for it is stated over the definitions. Where a
--- sentence speaks of what operations do, the operation's contract says it, and is named. The tape comes with its own crate.
+-- sentence speaks of what operations do, the statement is over the operation's answer. The tape comes with its own crate.
 -- Assumes nothing.
 use mathlib.Core.Path.{_≡_}
 use mathlib.Core.Logic.{_⊎_, _↔_}
@@ -11,12 +11,14 @@ use Rattle.field.specs.Lists.{iterate}
 use Rattle.field.specs.Words.{rotl}
 use Rattle.field.specs.Mixing.{mix, scale}
 use Rattle.field.specs.Published.{row}
+use Rattle.labyrinth.specs.declared.WorkingKey.{WorkingKey}
+use Rattle.labyrinth.specs.declared.Expanded.{Expanded}
 use Rattle.labyrinth.specs.Cipher.{article}
 use Rattle.labyrinth.specs.Keys.{E, U}
 use Rattle.labyrinth.specs.Refusals.{blockRefusal, expandRefusal, outcome, expansion}
 use Rattle.modes.specs.Cbc.{cbcSeal, cbcOpen}
 use Rattle.modes.specs.Ctr.{ctr}
-use Rattle.modes.specs.Refusals.{cbcRefusal, ctrRefusal}
+use Rattle.modes.specs.Refusals.{cbcRefusal, ctrRefusal, firstOf}
 
 -- n is 1, 2 or 4; l is 2, 3 or 4
 abbrev pub Legal : ℕ → Type 0
@@ -51,8 +53,8 @@ abbrev pub CtrTaken : Type 0
 CtrTaken = (n start source destination : ℕ) → (ctrRefusal n start source destination ≡ 0) ↔ (Legal n × (start ≡ 16 * n) × (destination ≡ source))
 
 -- "Everything else, from any caller, is refused with document 01's number in its order of checks, and what the refusal returns and leaves
--- in each buffer is fixed there." The numbers in their order are expandRefusal, blockRefusal, cbcRefusal and ctrRefusal, and the contracts of
--- expansion::expand, of the four block operations, of cbc::seal, cbc::open and ctr::run return them for all arguments. What is left:
+-- in each buffer is fixed there." The numbers in their order are expandRefusal, blockRefusal, cbcRefusal and ctrRefusal, which the operations
+-- of demand 2 return for all arguments. What they leave and return:
 abbrev pub BuffersKept : Type 0
 BuffersKept = (number : ℕ) (result before : List ℕ) → (number ≡ 0 → ⊥) → outcome number result before ≡ before
 
@@ -63,24 +65,50 @@ KeysBlank =
 
 -- ---- Demand 2
 
+-- What an operation answers: its number, and what a buffer held before and holds after. Of each operation in the code it is proved that its
+-- contract says this, for all arguments, and that the function meets its contract (proofs/Operations).
+
 -- "Expansion, enciphering and deciphering give, bit for bit, the Labyrinth of the article (source document 000) at blocks of 128, 256 and 512
--- bits with three key lengths each." The contracts: expansion::expand gives `expansion (article .SM)`, cipher::encipher_by_table and
--- matrix_cipher::encipher_by_matrix give `E article`, the deciphering ones `U article`, for all arguments.
--- "Chained and counter runs are CBC and CTR of NIST SP 800-38A over it, sealing and opening." The contracts: cbc::seal gives `cbcSeal (E
--- article ..)`, cbc::open gives `cbcOpen (U article ..)`, ctr::run gives `ctr (E article ..)`, in blocks of 16n bytes.
+-- bits with three key lengths each."
+abbrev pub Expands : ℕ → ℕ → List ℕ → Expanded → Type 0
+Expands n l key answer = answer ≡ expansion (article .SM) n l key (expandRefusal n l (length key))
+
+abbrev pub Maps : (List ℕ → List ℕ) → ℕ → List ℕ → ℕ → List ℕ → List ℕ → Type 0
+Maps map n source number before after = (number ≡ blockRefusal n (length source) (length before)) × (after ≡ outcome number (map source) before)
+
+abbrev pub Enciphers : WorkingKey → List ℕ → ℕ → List ℕ → List ℕ → Type 0
+Enciphers k = Maps (E article (k .n) (k .words)) (k .n)
+
+abbrev pub Deciphers : WorkingKey → List ℕ → ℕ → List ℕ → List ℕ → Type 0
+Deciphers k = Maps (U article (k .n) (k .words)) (k .n)
+
+-- "Chained and counter runs are CBC and CTR of NIST SP 800-38A over it, sealing and opening."
+abbrev pub SealsCbc : WorkingKey → List ℕ → List ℕ → ℕ → List ℕ → List ℕ → Type 0
+SealsCbc k start source number before after =
+    (number ≡ cbcRefusal (k .n) (length start) (length source) (length before))
+    × (after ≡ outcome number (cbcSeal (E article (k .n) (k .words)) (16 * k .n) start source) before)
+
+abbrev pub OpensCbc : WorkingKey → List ℕ → List ℕ → ℕ → List ℕ → List ℕ → Type 0
+OpensCbc k start source number before after =
+    (number ≡ cbcRefusal (k .n) (length start) (length source) (length before))
+    × (after ≡ outcome number (cbcOpen (U article (k .n) (k .words)) (16 * k .n) start source) before)
+
+abbrev pub RunsCtr : WorkingKey → List ℕ → ℕ → List ℕ → ℕ → List ℕ → List ℕ → Type 0
+RunsCtr k start q source number before after =
+    (number ≡ ctrRefusal (k .n) (length start) (length source) (length before))
+    × (after ≡ outcome number (ctr (E article (k .n) (k .words)) (16 * k .n) start q source) before)
 
 -- ---- Demand 3
 
 -- "Whatever words a working key of a legal size holds, expanded or made by hand, let E be the article's block map under its enciphering
 -- subkeys, and U the same under its deciphering ones, as document 01 lists them. For every admitted block, enciphering by matrix and by merged
--- table both give E of it, deciphering by either gives U of it": the four contracts above. "And E and U undo each other":
+-- table both give E of it, deciphering by either gives U of it": `Enciphers` and `Deciphers` of both engines. "And E and U undo each other":
 abbrev pub EAndUUndo : Type 0
 EAndUUndo =
     (n : ℕ) (ws b : List ℕ) → Words ws → length b ≡ 16 * n → Bytes b → (U article n ws (E article n ws b) ≡ b) × (E article n ws (U article n ws b) ≡ b)
 
 -- "For every CBC or CTR sealing that document 01 admits, the empty one too, every admitted opening of its result, by the same kind of run and
--- under the same working key, start block and, in CTR, offset, gives back the source byte for byte." Of the operations themselves the contracts
--- of round_trips::cbc_there_and_back and round_trips::ctr_there_and_back say it.
+-- under the same working key, start block and, in CTR, offset, gives back the source byte for byte."
 abbrev pub CbcOpensAgain : Type 0
 CbcOpensAgain =
     (n : ℕ) (ws start p : List ℕ) (sealed opened : ℕ) → Words ws → Bytes start → Bytes p
@@ -92,6 +120,10 @@ CtrOpensAgain =
     (n : ℕ) (ws start : List ℕ) (q : ℕ) (p : List ℕ) (sealed opened : ℕ)
     → ctrRefusal n (length start) (length p) sealed ≡ 0 → ctrRefusal n (length start) sealed opened ≡ 0
     → ctr (E article n ws) (16 * n) start q (ctr (E article n ws) (16 * n) start q p) ≡ p
+
+-- and of the operations themselves: sealing to a middle buffer and opening from it answers the first number that isn't 0, and the source
+abbrev pub ComesBack : ℕ → ℕ → List ℕ → ℕ → List ℕ → List ℕ → Type 0
+ComesBack sealing opening source number before after = (number ≡ firstOf sealing opening) × (after ≡ outcome number source before)
 
 -- "For all words of 64 bits, the article's mixing of the XOR of two is the XOR of the two mixed,"
 abbrev pub MixingOfXor : Type 0

@@ -1,15 +1,23 @@
 -- Laws of a string laid over the front of another, byte by byte as the loops do it.
 -- Assumes nothing.
 use mathlib.Core.Path.{_≡_, sym, ap, ap₂, _∙_}
-use mathlib.Core.List.{List, _++_, append-nil}
-use Prim.Native.Nat.{ℕ, _+_, _≤_, _<_, min}
+use mathlib.Core.List.{List, _++_, append-nil, append-assoc}
+use Prim.Native.Nat.{ℕ, _+_, _-_, _≤_, _<_, min}
 use native.Mathlib.Nat.{zero-add}
 use native.Mathlib.Numerals.{add-one}
 use native.Mathlib.Omega.{arith, min-cases}
+use lib.Bits.{bitXor}
 use lib.ListN.{length, getD, take, drop, set, replicate, length-append, length-take, length-drop, length-replicate, drop-of-length-le}
-use lib.Seq.{paste-suc, take-all, take-append-seam}
+use lib.Seq.{paste-suc, take-all, take-append-seam, take-add, take-at, drop-at, drop-drop, length-take-le, getD-take, getD-drop}
+use Rattle.field.specs.Lists.{tabulate}
+use Rattle.field.specs.Words.{byte}
+use Rattle.field.proofs.Lists.{tabulated}
+use Rattle.field.proofs.Words.{byte-xor, byte-join}
+use Rattle.labyrinth.proofs.Blocks.{Bytes}
+use Rattle.buffers.specs.Words.{wordAt, withWord}
+use Rattle.buffers.proofs.Words.{word-at, with-word}
 use Rattle.modes.specs.Strings.{xorBytes}
-use Rattle.modes.proofs.Strings.{length-xorBytes}
+use Rattle.modes.proofs.Strings.{length-xorBytes, getD-xorBytes}
 
 -- ---- the first i bytes of xs, and d from there on
 
@@ -17,6 +25,42 @@ use Rattle.modes.proofs.Strings.{length-xorBytes}
 pub lay-next : (xs d : List ℕ) (i : ℕ) {e : List ℕ} {v : ℕ} → i < length xs → i < length d → e ≡ take i xs ++ drop i d → v ≡ getD xs i 0
     → set e i v ≡ take (i + 1) xs ++ drop (i + 1) d
 lay-next xs d i h k p q = rw (p, q, add-one) (simp zero-add at (paste-suc d 0 xs i 0 (omega arith) h))
+
+-- behind them d still stands
+pub lay-behind : (xs d : List ℕ) (i k : ℕ) {e : List ℕ} → i ≤ length xs → i ≤ k → e ≡ take i xs ++ drop i d → drop k e ≡ drop k d
+lay-behind xs d i k {e} h m p =
+    ap (λ (j : ℕ). drop j e) split ∙ sym (drop-drop (k - i) i e)
+    ∙ ap (drop (k - i)) (ap (drop i) p ∙ drop-at (take i xs) (drop i d) i (length-take-le i xs h))
+    ∙ drop-drop (k - i) i d ∙ ap (λ (j : ℕ). drop j d) (sym split)
+  where
+    split : k ≡ i + (k - i)
+    split = omega arith
+
+-- a word more
+pub lay-word : (xs d : List ℕ) (i w : ℕ) {e : List ℕ} → i + 8 ≤ length xs → i + 8 ≤ length d → length e ≡ length d → e ≡ take i xs ++ drop i d
+    → ((k : ℕ) → k < 8 → getD xs (i + k) 0 ≡ byte w k) → withWord i w e ≡ take (i + 8) xs ++ drop (i + 8) d
+lay-word xs d i w {e} h k l p q =
+    with-word i w e (omega arith)
+    ∙ ap₂ (λ (x y : List ℕ). x ++ (tabulate 8 (byte w) ++ y)) (ap (take i) p ∙ take-at (take i xs) (drop i d) i (length-take-le i xs (omega arith)))
+    (lay-behind xs d i (i + 8) (omega arith) (omega arith) p)
+    ∙ ap (λ (x : List ℕ). take i xs ++ (x ++ drop (i + 8) d)) (sym eight)
+    ∙ sym (append-assoc (take i xs) (take 8 (drop i xs)) (drop (i + 8) d))
+    ∙ ap (λ (x : List ℕ). x ++ drop (i + 8) d) (sym (take-add i 8 xs))
+  where
+    eight : take 8 (drop i xs) ≡ tabulate 8 (byte w)
+    eight =
+        tabulated 8 (byte w) 0 (take 8 (drop i xs)) (length-take-le 8 (drop i xs) (omega (arith, length-drop {A = ℕ} i xs)))
+        (λ j m. getD-take 8 (drop i xs) j 0 m ∙ getD-drop i xs j 0 ∙ q j m)
+
+-- the XOR of two words is the XOR of their bytes
+pub xor-word : (a b : List ℕ) (i : ℕ) → Bytes a → Bytes b → i + 8 ≤ length a → i + 8 ≤ length b → (k : ℕ) → k < 8
+    → getD (xorBytes a b) (i + k) 0 ≡ byte (bitXor (wordAt a i) (wordAt b i)) k
+xor-word a b i p q h j k m =
+    getD-xorBytes a b (i + k) (omega arith) (omega arith)
+    ∙ sym (byte-xor k (wordAt a i) (wordAt b i) ∙ ap₂ bitXor (at a p h) (at b q j))
+  where
+    at : (s : List ℕ) → Bytes s → i + 8 ≤ length s → byte (wordAt s i) k ≡ getD s (i + k) 0
+    at s small h = ap (λ (w : ℕ). byte w k) (word-at s i h) ∙ byte-join 8 (λ b. getD s (i + b) 0) (λ b. small (i + b)) k m
 
 -- as far as both go
 pub lay-all : (xs d : List ℕ) (m : ℕ) {e : List ℕ} → m ≡ min (length d) (length xs) → e ≡ take m xs ++ drop m d → e ≡ take (length d) xs ++ drop (length xs) d

@@ -48,12 +48,26 @@ pub fn in_room(block: &[u8]) -> [u8; 64]
     r
 }
 
+// Writes the XOR of a and b to d in whole words, as far as m goes: what it answers is where they end.
+fn xor_words(d: &mut [u8], a: &[u8], b: &[u8], m: usize) -> usize
+    requires { ⌜ (m ≤ length (now d)) × (m ≤ length (now a)) × (m ≤ length (now b)) ⌝ }
+    ensures end { λ r. ⌜ r ≤ m ⌝ }
+    ensures front { λ r. ⌜ now (d .exit) ≡ take r (xorBytes (now (a .entry)) (now (b .entry))) ++ drop r (now (d .entry)) ⌝ }
+{
+    let mut i = 0usize;
+    while 8 <= m - i {
+        buffers::store_word(d, i, buffers::load_word(a, i) ^ buffers::load_word(b, i));
+        i += 8;
+    }
+    i
+}
+
 // Writes the XOR of a and b to d, as far as all three go. Bytes of d past that stay.
 pub fn xor_to(d: &mut [u8], a: &[u8], b: &[u8])
     ensures { λ _. ⌜ now (d .exit) ≡ take (length (now (d .entry))) (xorBytes (now (a .entry)) (now (b .entry))) ++ drop (length (xorBytes (now (a .entry)) (now (b .entry)))) (now (d .entry)) ⌝ }
 {
     let m = lesser(d.len(), lesser(a.len(), b.len()));
-    let mut i = 0usize;
+    let mut i = xor_words(d, a, b, m);
     while i < m {
         d[i] = a[i] ^ b[i];
         i += 1;

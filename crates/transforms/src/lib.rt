@@ -9,7 +9,7 @@ ghost use Prim.Native.Nat.{_+_, _*_, _≤_, _<_};
 ghost use lib.Dec.{eqb};
 ghost use lib.ListN.{length, getD, take, drop};
 ghost use Rattle.field.specs.Lists.{tabulate};
-ghost use Rattle.field.specs.Words.{byte, join, rotl, eachByte};
+ghost use Rattle.field.specs.Words.{rotl, eachByte};
 ghost use Rattle.field.specs.Substitution.{sub};
 ghost use Rattle.labyrinth.specs.Blocks.{plus, minus, each, zip, words, bytes, load, store};
 ghost use Rattle.labyrinth.specs.Cipher.{IMix, IT, FT};
@@ -17,46 +17,6 @@ ghost use Rattle.labyrinth.specs.Cipher as spec;
 ghost use Rattle.labyrinth.specs.Keys.{half};
 ghost use Rattle.labyrinth.specs.Refusals.{legal};
 ghost use Rattle.labyrinth.specs.Working.{Size, wordsFrom, choose, room, held, blockIn, fits};
-
-// ---- words in a buffer
-
-// A byte as a word.
-fn wide(b: u8) -> u64
-    ensures same { λ r. ⌜ r ≡ b ⌝ }
-    ensures small { λ r. ⌜ r < 256 ⌝ }
-{
-    b as u64
-}
-
-// The word at a place of a buffer, its least byte first.
-fn load_word(s: &[u8], at: usize) -> u64
-    requires { ⌜ at + 8 ≤ length (now s) ⌝ }
-    ensures { λ r. ⌜ r ≡ join 8 (λ b. getD (now (s .entry)) (at + b) 0) ⌝ }
-{
-    wide(s[at])
-        + 0x100 * wide(s[at + 1])
-        + 0x10000 * wide(s[at + 2])
-        + 0x1000000 * wide(s[at + 3])
-        + 0x100000000 * wide(s[at + 4])
-        + 0x10000000000 * wide(s[at + 5])
-        + 0x1000000000000 * wide(s[at + 6])
-        + 0x100000000000000 * wide(s[at + 7])
-}
-
-// Puts a word at a place of a buffer.
-fn store_word(d: &mut [u8], at: usize, w: u64)
-    requires { ⌜ at + 8 ≤ length (now d) ⌝ }
-    ensures { λ _. ⌜ now (d .exit) ≡ take at (now (d .entry)) ++ (tabulate 8 (byte w) ++ drop (at + 8) (now (d .entry))) ⌝ }
-{
-    d[at] = arithmetic::byte_at(w, 0);
-    d[at + 1] = arithmetic::byte_at(w, 1);
-    d[at + 2] = arithmetic::byte_at(w, 2);
-    d[at + 3] = arithmetic::byte_at(w, 3);
-    d[at + 4] = arithmetic::byte_at(w, 4);
-    d[at + 5] = arithmetic::byte_at(w, 5);
-    d[at + 6] = arithmetic::byte_at(w, 6);
-    d[at + 7] = arithmetic::byte_at(w, 7);
-}
 
 // ---- IMix
 
@@ -112,7 +72,7 @@ fn key_in(
     let mut x = [0u64; 4];
     let mut j = 0usize;
     while j < n {
-        let w = std::num::wrapping_add_u64(load_word(src, at + 8 * j), ks[k + j]);
+        let w = std::num::wrapping_add_u64(buffers::load_word(src, at + 8 * j), ks[k + j]);
         x[j] = arithmetic::rotate_left(mixing::substitute_bytes(s, w), turn);
         j += 1;
     }
@@ -195,7 +155,7 @@ fn key_out(
     let mut j = 0usize;
     while j < n {
         let w = mixing::substitute_bytes(u, arithmetic::rotate_left(x[j], turn));
-        store_word(dst, at + 8 * j, difference(w, ks[k + j]));
+        buffers::store_word(dst, at + 8 * j, difference(w, ks[k + j]));
         j += 1;
     }
 }

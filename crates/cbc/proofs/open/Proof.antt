@@ -1,16 +1,13 @@
 -- A refusal leaves the destination; else the block map of the published tables, in either form, is the article's.
 -- Assumes nothing.
-use mathlib.Core.Path.{_≡_, refl, sym, ap, _∙_}
+use mathlib.Core.Path.{_≡_, refl, sym, _∙_}
 use mathlib.Core.Bool.{Bool, true, false}
-use mathlib.Core.Logic.{inl, inr}
 use mathlib.Core.List.{List}
 use Prim.Native.Nat.{ℕ, _*_}
 use lib.ListN.{length}
-use Rattle.labyrinth.specs.Working.{spread}
-use Rattle.labyrinth.proofs.Operations.{HandedOut, handed-lendable, refused-keeps}
+use Rattle.labyrinth.proofs.Operations.{HandedOut, handed-one, handed-eight, handed-lendable, lent-run, refused-keeps}
 use Rattle.modes.specs.Cbc.{cbcOpen}
 use Rattle.modes.proofs.Refusals.{Cbc-taken, cbc-taken}
-use Rattle.modes.proofs.Lent.{lent-run}
 use borrow.Author.Needs.{needs}
 use Rattle.cbc.proofs.open.Statement.{statement}
 use Rattle.cbc.proofs.open.Tie as tie
@@ -48,10 +45,10 @@ slice-aggregate-open-run c = search needs
 
 -- the table in either form
 eight : (c : tie.After-spread-table) → HandedOut (c .spread-table .result)
-eight c = inr (c .spread-table .ensures ∙ ap spread (c .before .before .before .before .before .before .before .merged-table .ensures))
+eight c = handed-eight (c .before .before .before .before .before .before .before .merged-table .ensures) (c .spread-table .ensures)
 
 one : (c : tie.After-merged-table) → HandedOut (c .merged-table .result)
-one c = inl (c .merged-table .ensures)
+one c = handed-one (c .merged-table .ensures)
 
 open-run-requires : tie.Need-open-run-requires
 open-run-requires c κs = let k = taken (c .before .before .before .before .before .before .before .before .before .before .before .before .before) in (k .size, k .start, k .whole, k .same, handed-lendable (eight (c .before .before .before .before .before)))

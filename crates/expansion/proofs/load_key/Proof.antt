@@ -1,12 +1,13 @@
 -- After i turns the first i words stand, and zeros behind them.
 -- Assumes nothing.
 use mathlib.Core.Path.{_≡_, refl, sym, ap, _∙_}
-use Prim.Native.Nat.{ℕ, _≤_, _<_, _-_}
+use Prim.Native.Nat.{ℕ, _≤_, _<_, _-_, _*_}
 use native.Mathlib.Omega.{arith}
 use Rattle.field.specs.Lists.{tabulate}
 use Rattle.labyrinth.specs.Blocks.{words}
 use Rattle.labyrinth.specs.Refusals.{padded}
 use Rattle.labyrinth.proofs.Expansion.{load-more}
+use Rattle.buffers.proofs.Words.{word-at}
 use borrow.Author.Needs.{needs}
 use Rattle.expansion.proofs.load_key.Statement.{statement}
 use Rattle.expansion.proofs.load_key.Tie as tie
@@ -21,8 +22,11 @@ loop-holds : tie.Need-loop-holds Inv-loop μ-loop
 unfolding padded words tabulate
 loop-holds c = (omega arith, refl)
 
-key-word-requires : tie.Need-key-word-requires Inv-loop μ-loop
-key-word-requires c κs = search needs
+mul-load-word : tie.Need-mul-load-word Inv-loop μ-loop
+mul-load-word c = search needs
+
+load-word-requires : tie.Need-load-word-requires Inv-loop μ-loop
+load-word-requires c κs = search needs
 
 mul-w : tie.Need-mul-w Inv-loop μ-loop
 mul-w c = search needs
@@ -39,7 +43,7 @@ loop-less c = search needs
 loop-again : tie.Need-loop-again Inv-loop μ-loop
 loop-again c =
     let s = c .before .before .loop in
-    (omega arith, load-more _ _ (s .i) _ (s .inv .1) (omega arith) (c .key-word .ensures))
+    (omega arith, load-more _ _ (s .i) _ (s .inv .1) (omega arith) (c .load-word .ensures ∙ word-at (c .before .before .before .before .args .key .now) (8 * s .i) (omega arith)))
 
 returns : tie.Need-returns Inv-loop μ-loop
 returns c = let s = c .before .loop in let e : s .i ≡ c .before .before .before .args .m = omega arith in s .inv .1 ∙ ap (λ (k : ℕ). padded (words k (c .before .before .before .args .key .now))) e
@@ -51,7 +55,8 @@ load-key-spec =
     Inv-loop
     μ-loop
     loop-holds
-    key-word-requires
+    mul-load-word
+    load-word-requires
     mul-w
     array-write-w
     add-i

@@ -1,7 +1,7 @@
 -- After j turns the words below j have come in.
 -- Assumes nothing.
 use mathlib.Core.Path.{_≡_, refl, ap, ap₂, _∙_}
-use Prim.Native.Nat.{ℕ, _≤_, _<_, _+_, _-_}
+use Prim.Native.Nat.{ℕ, _≤_, _<_, _+_, _-_, _*_}
 use native.Mathlib.Nat.{mod-eq-of-lt}
 use native.Mathlib.Omega.{arith}
 use lib.ListN.{getD}
@@ -12,6 +12,7 @@ use Rattle.labyrinth.specs.Blocks.{plus}
 use Rattle.labyrinth.specs.Working.{room}
 use Rattle.labyrinth.proofs.Room.{room-more, room-end}
 use Rattle.labyrinth.proofs.Ends.{inWord, in-half}
+use Rattle.buffers.proofs.Words.{word-at}
 use borrow.Author.Needs.{needs}
 use Rattle.transforms.proofs.key_in.Statement.{statement}
 use Rattle.transforms.proofs.key_in.Tie as tie
@@ -78,7 +79,7 @@ loop-again c =
           ∙ ap₂ rotl
           (c .before .substitute-bytes .ensures
           ∙ ap (eachByte (sub (a .s .now)))
-          (added .wrapping-add-u64 .ensures ∙ ap (λ (x : ℕ). plus x (getD (a .ks .now) (a .k + v .j) 0)) (loaded .load-word .ensures)))
+          (added .wrapping-add-u64 .ensures ∙ ap (λ (x : ℕ). plus x (getD (a .ks .now) (a .k + v .j) 0)) (loaded .load-word .ensures ∙ word-at (a .src .now) (a .at + 8 * v .j) (omega arith))))
           (mod-eq-of-lt h)),
     )
 

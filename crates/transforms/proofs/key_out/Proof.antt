@@ -10,6 +10,7 @@ use Rattle.field.specs.Words.{rotl, eachByte}
 use Rattle.field.specs.Substitution.{sub}
 use Rattle.labyrinth.specs.Blocks.{minus, bytes}
 use Rattle.labyrinth.proofs.Buffers.{put, put-none, put-bytes}
+use Rattle.buffers.proofs.Words.{with-word}
 use Rattle.labyrinth.proofs.Ends.{outHalf, getD-outHalf}
 use borrow.Author.Needs.{needs}
 use Rattle.transforms.proofs.key_out.Statement.{statement}
@@ -79,6 +80,7 @@ loop-again c =
       omega arith,
       stored .store-word .kept .0 ∙ v .inv .1,
       stored .store-word .ensures
+          ∙ with-word (a .at + 8 * v .j) _ (v .dst) (omega arith)
           ∙ put-bytes (outHalf S (a .n) (a .ks .now) (a .k) (a .turn) (a .x .now)) (a .dst .now) (v .dst) (a .at) (v .j) _ (omega arith)
           (less .difference .ensures ∙ ap (λ (x : ℕ). minus x k) w
           ∙ getD-outHalf S (a .n) (a .ks .now) (a .k) (a .turn) (a .x .now) (v .j) (omega arith))

@@ -4,8 +4,8 @@ use native.Mathlib.Omega.{arith}
 use lib.ListN.{length-set}
 use Rattle.labyrinth.proofs.Buffers.{put-word}
 use borrow.Author.Needs.{needs}
-use Rattle.transforms.proofs.store_word.Statement.{statement}
-use Rattle.transforms.proofs.store_word.Tie as tie
+use Rattle.buffers.proofs.store_inside.Statement.{statement}
+use Rattle.buffers.proofs.store_inside.Tie as tie
 
 byte-at-requires : tie.Need-byte-at-requires
 byte-at-requires c κs = search needs
@@ -99,8 +99,8 @@ returns c =
     (b₇ .byte-at7 .ensures)
     (c .byte-at8 .ensures)
 
-pub store-word-spec : {M : Type 1} → statement M
-store-word-spec =
+pub store-inside-spec : {M : Type 1} → statement M
+store-inside-spec =
     tie.close
     (tie.spec
     byte-at-requires

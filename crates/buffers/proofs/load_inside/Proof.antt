@@ -7,8 +7,8 @@ use native.Mathlib.Omega.{arith}
 use lib.ListN.{getD}
 use Rattle.labyrinth.proofs.Buffers.{join-eight}
 use borrow.Author.Needs.{needs}
-use Rattle.transforms.proofs.load_word.Statement.{statement}
-use Rattle.transforms.proofs.load_word.Tie as tie
+use Rattle.buffers.proofs.load_inside.Statement.{statement}
+use Rattle.buffers.proofs.load_inside.Tie as tie
 
 shared-slice-read-wide : tie.Need-shared-slice-read-wide
 shared-slice-read-wide c = omega arith
@@ -141,8 +141,8 @@ returns c =
     (b₇ .wide7 .ensures .0)
     (c .wide8 .ensures .0)
 
-pub load-word-spec : {M : Type 1} → statement M
-load-word-spec =
+pub load-inside-spec : {M : Type 1} → statement M
+load-inside-spec =
     tie.close
     (tie.spec
     shared-slice-read-wide

@@ -1,0 +1,23 @@
+-- Words in a buffer of bytes, the least byte first (the article's 2.1 in a buffer's bytes). No part of the article: the code's way to
+-- Blocks' `words` and `bytes`.
+-- Assumes nothing.
+use Prim.Native.Nat.{ℕ, _+_}
+use mathlib.Core.Bool.{Bool}
+use mathlib.Core.List.{List, _++_}
+use lib.Dec.{leb}
+use lib.ListN.{getD, length, take, drop}
+use Rattle.field.specs.Lists.{tabulate, pick}
+use Rattle.field.specs.Words.{byte, join}
+use Rattle.labyrinth.specs.Working.{choose}
+
+-- a word has room at a place of a buffer of so many bytes
+unfoldable pub inside : ℕ → ℕ → Bool
+inside at size = leb (at + 8) size
+
+-- the word there; 0 where it has no room
+unfoldable pub wordAt : List ℕ → ℕ → ℕ
+wordAt s at = pick (inside at (length s)) (join 8 (λ b. getD s (at + b) 0))
+
+-- the buffer with a word put there; as it was where the word has no room
+unfoldable pub withWord : ℕ → ℕ → List ℕ → List ℕ
+withWord at w d = choose (inside at (length d)) (take at d ++ (tabulate 8 (byte w) ++ drop (at + 8) d)) d

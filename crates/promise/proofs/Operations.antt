@@ -1,0 +1,118 @@
+-- The operations do what the demands say: what the contract of each tells its caller, for all arguments, is the statement; and each function
+-- meets its contract.
+-- Assumes nothing.
+use Prim.Native.Nat.{ℕ}
+use mathlib.Core.Path.{_≡_}
+use contract.Lifetimes.{Lfts}
+use lib.ListN.{length}
+use Rattle.field.specs.Mixing.{mix}
+use Rattle.field.specs.Published.{row}
+use Rattle.modes.specs.Refusals.{cbcRefusal, ctrRefusal}
+use Rattle.promise.specs.Demands.{Expands, Enciphers, Deciphers, SealsCbc, OpensCbc, RunsCtr, ComesBack}
+use Rattle.expansion.proofs.expand as expand
+use Rattle.cipher.proofs.encipher_by_table as encipher-by-table
+use Rattle.cipher.proofs.decipher_by_table as decipher-by-table
+use Rattle.matrix_cipher.proofs.encipher_by_matrix as encipher-by-matrix
+use Rattle.matrix_cipher.proofs.decipher_by_matrix as decipher-by-matrix
+use Rattle.cbc.proofs.seal as seal
+use Rattle.cbc.proofs.open as cbc-open
+use Rattle.ctr.proofs.run as run
+use Rattle.round_trips.proofs.cbc_there_and_back as cbc-there-and-back
+use Rattle.round_trips.proofs.ctr_there_and_back as ctr-there-and-back
+use Rattle.mixing.proofs.mix as mix-word
+
+-- ---- demand 2
+
+module _ (κs : Lfts 1) where
+  pub expands : (a : _) (z : _) (e : _) → expand.Reads.Learnt κs a z e → Expands (a .0) (a .1 .0) (a .1 .1 .0 .now) z
+  expands a z e h = h
+
+-- and, of demand 3, by matrix and by merged table
+module _ (κs : Lfts 2) where
+  pub enciphers-by-table : (a : _) (z : _) (e : _) → encipher-by-table.Reads.Learnt κs a z e
+      → Enciphers (a .0) (a .1 .0 .now) z (a .1 .1 .0 .now) (e .1 .1 .0 .now)
+  enciphers-by-table a z e h = h
+
+  pub deciphers-by-table : (a : _) (z : _) (e : _) → decipher-by-table.Reads.Learnt κs a z e
+      → Deciphers (a .0) (a .1 .0 .now) z (a .1 .1 .0 .now) (e .1 .1 .0 .now)
+  deciphers-by-table a z e h = h
+
+  pub enciphers-by-matrix : (a : _) (z : _) (e : _) → encipher-by-matrix.Reads.Learnt κs a z e
+      → Enciphers (a .0) (a .1 .0 .now) z (a .1 .1 .0 .now) (e .1 .1 .0 .now)
+  enciphers-by-matrix a z e h = h
+
+  pub deciphers-by-matrix : (a : _) (z : _) (e : _) → decipher-by-matrix.Reads.Learnt κs a z e
+      → Deciphers (a .0) (a .1 .0 .now) z (a .1 .1 .0 .now) (e .1 .1 .0 .now)
+  deciphers-by-matrix a z e h = h
+
+module _ (κs : Lfts 3) where
+  pub seals-cbc : (a : _) (z : _) (e : _) → seal.Reads.Learnt κs a z e
+      → SealsCbc (a .0) (a .1 .0 .now) (a .1 .1 .0 .now) z (a .1 .1 .1 .0 .now) (e .1 .1 .1 .0 .now)
+  seals-cbc a z e h = h
+
+  pub opens-cbc : (a : _) (z : _) (e : _) → cbc-open.Reads.Learnt κs a z e
+      → OpensCbc (a .0) (a .1 .0 .now) (a .1 .1 .0 .now) z (a .1 .1 .1 .0 .now) (e .1 .1 .1 .0 .now)
+  opens-cbc a z e h = h
+
+  pub runs-ctr : (a : _) (z : _) (e : _) → run.Reads.Learnt κs a z e
+      → RunsCtr (a .0) (a .1 .0 .now) (a .1 .1 .0) (a .1 .1 .1 .0 .now) z (a .1 .1 .1 .1 .0 .now) (e .1 .1 .1 .1 .0 .now)
+  runs-ctr a z e h = h
+
+-- ---- demand 3: the round trips of the operations, and mixing
+
+module _ (κs : Lfts 4) where
+  pub cbc-comes-back : (a : _) (z : _) (e : _) → cbc-there-and-back.Reads.Learnt κs a z e
+      → let k = a .0 in
+      let start = length (a .1 .0 .now) in
+      let mid = length (a .1 .1 .1 .0 .now) in
+      ComesBack (cbcRefusal (k .n) start (length (a .1 .1 .0 .now)) mid) (cbcRefusal (k .n) start mid (length (a .1 .1 .1 .1 .0 .now)))
+      (a .1 .1 .0 .now) z (a .1 .1 .1 .1 .0 .now) (e .1 .1 .1 .1 .0 .now)
+  cbc-comes-back a z e h = (h .0, h .1 .1)
+
+  pub ctr-comes-back : (a : _) (z : _) (e : _) → ctr-there-and-back.Reads.Learnt κs a z e
+      → let k = a .0 in
+      let start = length (a .1 .0 .now) in
+      let mid = length (a .1 .1 .1 .1 .0 .now) in
+      ComesBack (ctrRefusal (k .n) start (length (a .1 .1 .1 .0 .now)) mid) (ctrRefusal (k .n) start mid (length (a .1 .1 .1 .1 .1 .0 .now)))
+      (a .1 .1 .1 .0 .now) z (a .1 .1 .1 .1 .1 .0 .now) (e .1 .1 .1 .1 .1 .0 .now)
+  ctr-comes-back a z e h = (h .0, h .1 .1)
+
+module _ (κs : Lfts 0) where
+  pub mixes : (a : _) (z : _) (e : _) → mix-word.Reads.Learnt κs a z e → z ≡ mix row (a .0)
+  mixes a z e h = h
+
+-- ---- every function named here meets its contract
+
+module _ {M : Type 1} where
+  pub expand-met : expand.Statement.statement M
+  expand-met = expand.Met.met
+
+  pub encipher-by-table-met : encipher-by-table.Statement.statement M
+  encipher-by-table-met = encipher-by-table.Met.met
+
+  pub decipher-by-table-met : decipher-by-table.Statement.statement M
+  decipher-by-table-met = decipher-by-table.Met.met
+
+  pub encipher-by-matrix-met : encipher-by-matrix.Statement.statement M
+  encipher-by-matrix-met = encipher-by-matrix.Met.met
+
+  pub decipher-by-matrix-met : decipher-by-matrix.Statement.statement M
+  decipher-by-matrix-met = decipher-by-matrix.Met.met
+
+  pub seal-met : seal.Statement.statement M
+  seal-met = seal.Met.met
+
+  pub open-met : cbc-open.Statement.statement M
+  open-met = cbc-open.Met.met
+
+  pub run-met : run.Statement.statement M
+  run-met = run.Met.met
+
+  pub cbc-there-and-back-met : cbc-there-and-back.Statement.statement M
+  cbc-there-and-back-met = cbc-there-and-back.Met.met
+
+  pub ctr-there-and-back-met : ctr-there-and-back.Statement.statement M
+  ctr-there-and-back-met = ctr-there-and-back.Met.met
+
+  pub mix-met : mix-word.Statement.statement M
+  mix-met = mix-word.Met.met
