@@ -1,14 +1,15 @@
-# make run    the main job as far as it exists: a key expanded, a block enciphered and deciphered, by table and by matrix,
-#             and three blocks sealed and opened, in CBC and in CTR
+# make run    the main job: document 01's example tape, made from text, worked, and shown with its answers
 # make test   the gate
 # make bench  times the proved code against C
 .PHONY: run test bench
 
 run:
-	rt check vectors
-	head -c 61 crates/vectors/stdin | target/bin/vectors
-	tail -c +32538 crates/vectors/stdin | head -c 93 | target/bin/vectors
-	tail -c 93 crates/vectors/stdin | target/bin/vectors
+	rt check tape_program
+	tools/write_tape tools/example.txt >target/example.tape
+	target/bin/tape_program <target/example.tape >target/example.answers
+	@echo "the $$(wc -c <target/example.answers) bytes of the answers:"
+	@od -A n -v -t x1 target/example.answers
+	tools/show_tape target/example.tape target/example.answers
 
 test:
 	tests/gate.sh

@@ -130,11 +130,99 @@ def refusals():
             yield f"{op} {number} {'same' if number else 'made' if destination else 'empty'}\n"
 
 
+# steps of a tape: (state by hand (n, keyed, ended) or None for what the step before left, room, rest)
+MIX_WORD = bytes.fromhex("050100000000000000")
+
+
+def tape_key(n, l, key):
+    return bytes([1, n, l]) + key.ljust(128, b"\x00")
+
+
+def tape_cases():
+    fresh, v = (0, 0, 0), found("block", 225)[0]
+    key, plain = bytes.fromhex(v["key"]), bytes.fromhex(v["pt"])
+    if (v["n"], v["l"]) != (1, 2):
+        raise SystemExit("expected.py: the first block vector is of another size")
+    enciphers, deciphers = b"\x03" + plain.ljust(64, b"\x00"), b"\x04" + bytes.fromhex(v["ct"]).ljust(64, b"\x00")
+    # 5 first: fresh, ended and with an empty rest
+    for room in (0, 1, 64, 66, 255):
+        for state in (fresh, (1, 1, 0), (1, 1, 1)):
+            for rest in (b"", MIX_WORD, b"\x7f"):
+                yield state, room, rest
+    # the end of a tape, from each kind of state
+    for state in (fresh, (1, 1, 0), (3, 0, 0), (3, 1, 1), (1, 0, 1)):
+        for rest in (b"", b"\x00", b"\x00\x05", MIX_WORD):
+            yield state, 65, rest
+    # states by hand: set with n = 3 and with 0, not set with n = 3
+    for state in ((3, 1, 0), (3, 0, 0), (0, 1, 0), (8, 1, 0), (255, 1, 0), (1, 0, 0), fresh):
+        for rest in (enciphers, deciphers, b"\x03" + b"\x01" * 64, enciphers[:64]):
+            yield state, 65, rest
+    # commands one after another, with more behind; a refused 01 keeps the old key
+    yield fresh, 65, tape_key(1, 2, key) + enciphers
+    yield None, 65, enciphers + deciphers
+    yield None, 65, tape_key(3, 2, b"")
+    yield None, 65, tape_key(1, 5, b"")
+    yield None, 65, tape_key(1, 2, key + b"\x01")
+    yield None, 65, deciphers
+    yield None, 65, enciphers[:17] + b"\x01".rjust(48, b"\x00")
+    yield None, 64, enciphers
+    yield None, 65, enciphers
+    yield None, 65, b"\x02"
+    yield None, 65, enciphers
+
+
+def tape_steps_input():
+    """Cases of a head of 6 bytes (0 for a state by hand; n; the marks; the room; the rest's length in 2, lowest first) and the rest."""
+    for state, room, rest in tape_cases():
+        n, keyed, ended = state or (0, 0, 0)
+        yield bytes([0 if state else 1, n, keyed + 2 * ended, room]) + len(rest).to_bytes(2, "little") + rest
+
+
+def tape_step(state, room, rest):
+    """Document 01's step: number, bytes taken, answer, next state; a state is n, the two marks and the archivists' cipher."""
+    n, keyed, ended, cipher = state
+    stop = (n, keyed, 1, cipher)
+    if room != 65:
+        return 5, 0, b"", state
+    if ended or not rest:
+        return 0, 0, b"", stop
+    command = rest[0]
+    if command == 0:
+        return 0, 1, b"", stop
+    if command not in (1, 3, 4, 5):
+        return 7, 1, b"\x07", stop
+    width = {1: 131, 3: 65, 4: 65, 5: 9}[command]
+    if len(rest) < width:
+        return 8, len(rest), b"\x08", stop
+    if command == 5:
+        mixed = labyrinth.cmbn_poly(int.from_bytes(rest[1:9], "little"))
+        return 0, 9, b"\x00" + mixed.to_bytes(8, "little"), state
+    if command == 1:
+        m, l, key = rest[1], rest[2], rest[3:131]
+        number = 1 if m not in (1, 2, 4) else 2 if l not in (2, 3, 4) else 10 if any(key[8 * m * l :]) else 0
+        next_state = state if number else (m, 1, 0, labyrinth.Labyrinth(m, key[: 8 * m * l]))
+        return number, 131, bytes([number]), next_state
+    number = 9 if not keyed else 1 if n not in (1, 2, 4) else 10 if any(rest[1 + 16 * n : 65]) else 0
+    if number:
+        return number, 65, bytes([number]), state
+    return 0, 65, b"\x00" + (cipher.encrypt_block if command == 3 else cipher.decrypt_block)(rest[1 : 1 + 16 * n]), state
+
+
+def tape_steps():
+    """Number, bytes taken, bytes written, n and the marks of the next state, and the answer buffer over bytes AA."""
+    left = (0, 0, 0, None)
+    for state, room, rest in tape_cases():
+        number, taken, answer, left = tape_step((*state, None) if state else left, room, rest)
+        buffer = (answer + b"\xaa" * (room - len(answer))).hex()
+        yield f"{number} {taken} {len(answer)} {left[0]} {left[1]} {left[2]} {buffer}\n"
+
+
 # name: (the maker of the input, the maker of the output, how many cases)
 PROGRAMS = {
     "print_tables": (None, print_tables, 256),
     "vectors": (vectors_input, vectors, 663),
     "refusals": (refusals_input, refusals, 205),
+    "tape_steps": (tape_steps_input, tape_steps, 104),
 }
 
 

@@ -33,5 +33,8 @@ tests/axioms.py || fail "assumptions"
 # ---- the expected outputs are the archivists'
 tests/compare.sh || fail "the comparison with the archivists"
 
+# ---- the tape program and the tools for people, on tapes made from the archivists' vectors and document 01
+tests/tapes.py || fail "the tapes"
+
 [ "$failures" -eq 0 ] || { echo "gate: $failures checks failed"; exit 1; }
 echo "$last"

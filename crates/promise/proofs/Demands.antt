@@ -8,9 +8,10 @@ use Rattle.field.proofs.Eight.{mix-row-eight}
 use Rattle.labyrinth.specs.Refusals.{padded, expansion}
 use Rattle.labyrinth.proofs.Refusals.{block-iff, expand-iff}
 use Rattle.labyrinth.proofs.Operations.{refused-keeps, article-U-E, article-E-U}
+use Rattle.tape_run.proofs.Runs.{run-iff}
 use Rattle.modes.proofs.Refusals.{cbc-iff, ctr-iff}
 use Rattle.modes.proofs.Again.{cbc-again, ctr-again}
-use Rattle.promise.specs.Demands.{KeysTaken, BlocksTaken, CbcTaken, CtrTaken, BuffersKept, KeysBlank, EAndUUndo, CbcOpensAgain, CtrOpensAgain, MixingOfXor, MixingRotated, MixingEightTimes}
+use Rattle.promise.specs.Demands.{KeysTaken, BlocksTaken, CbcTaken, CtrTaken, TapesTaken, BuffersKept, KeysBlank, EAndUUndo, CbcOpensAgain, CtrOpensAgain, MixingOfXor, MixingRotated, MixingEightTimes}
 
 -- ---- demand 1
 
@@ -25,6 +26,9 @@ cbc-runs-taken = cbc-iff
 
 pub ctr-runs-taken : CtrTaken
 ctr-runs-taken = ctr-iff
+
+pub tapes-taken : TapesTaken
+tapes-taken = run-iff
 
 pub buffers-kept : BuffersKept
 buffers-kept number result before h = sym (refused-keeps number result before h)

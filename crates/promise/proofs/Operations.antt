@@ -8,7 +8,9 @@ use lib.ListN.{length}
 use Rattle.field.specs.Mixing.{mix}
 use Rattle.field.specs.Published.{row}
 use Rattle.modes.specs.Refusals.{cbcRefusal, ctrRefusal}
-use Rattle.promise.specs.Demands.{Expands, Enciphers, Deciphers, SealsCbc, OpensCbc, RunsCtr, ComesBack}
+use Rattle.promise.specs.Demands.{Steps, WorksTape, Expands, Enciphers, Deciphers, SealsCbc, OpensCbc, RunsCtr, ComesBack}
+use Rattle.tape.proofs.step as tape-step
+use Rattle.tape_run.proofs.run as tape-run
 use Rattle.expansion.proofs.expand as expand
 use Rattle.cipher.proofs.encipher_by_table as encipher-by-table
 use Rattle.cipher.proofs.decipher_by_table as decipher-by-table
@@ -20,6 +22,15 @@ use Rattle.ctr.proofs.run as run
 use Rattle.round_trips.proofs.cbc_there_and_back as cbc-there-and-back
 use Rattle.round_trips.proofs.ctr_there_and_back as ctr-there-and-back
 use Rattle.mixing.proofs.mix as mix-word
+
+-- ---- demand 1: the tape
+
+module _ (κs : Lfts 2) where
+  pub steps : (a : _) (z : _) (e : _) → tape-step.Reads.Learnt κs a z e → Steps (a .0) (a .1 .0 .now) z (a .1 .1 .0 .now) (e .1 .1 .0 .now)
+  steps a z e h = h
+
+  pub works-tape : (a : _) (z : _) (e : _) → tape-run.Reads.Learnt κs a z e → WorksTape (a .0 .now) z (a .1 .0 .now) (e .1 .0 .now)
+  works-tape a z e h = h
 
 -- ---- demand 2
 
@@ -84,6 +95,12 @@ module _ (κs : Lfts 0) where
 -- ---- every function named here meets its contract
 
 module _ {M : Type 1} where
+  pub step-met : tape-step.Statement.statement M
+  step-met = tape-step.Met.met
+
+  pub tape-run-met : tape-run.Statement.statement M
+  tape-run-met = tape-run.Met.met
+
   pub expand-met : expand.Statement.statement M
   expand-met = expand.Met.met
 

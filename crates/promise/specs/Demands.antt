@@ -1,5 +1,5 @@
 -- The user's demands 1, 2 and 3, sentence by sentence: each is quoted, and what stands for it is stated over the definitions. Where a
--- sentence speaks of what operations do, the statement is over the operation's answer. The tape comes with its own crate.
+-- sentence speaks of what operations do, the statement is over the operation's answer.
 -- Assumes nothing.
 use mathlib.Core.Path.{_≡_}
 use mathlib.Core.Logic.{_⊎_, _↔_}
@@ -16,6 +16,13 @@ use Rattle.labyrinth.specs.declared.Expanded.{Expanded}
 use Rattle.labyrinth.specs.Cipher.{article}
 use Rattle.labyrinth.specs.Keys.{E, U}
 use Rattle.labyrinth.specs.Refusals.{blockRefusal, expandRefusal, outcome, expansion}
+use Rattle.tape.specs.declared.Tape.{Tape}
+use Rattle.tape.specs.declared.Stepped.{Stepped}
+use Rattle.tape.specs.Steps.{step, over}
+use Rattle.tape.specs.Steps as tape
+use Rattle.tape_run.specs.declared.Answered.{Answered}
+use Rattle.tape_run.specs.Runs.{run}
+use Rattle.tape_run.specs.Runs as tape-run
 use Rattle.modes.specs.Cbc.{cbcSeal, cbcOpen}
 use Rattle.modes.specs.Ctr.{ctr}
 use Rattle.modes.specs.Refusals.{cbcRefusal, ctrRefusal, firstOf}
@@ -52,9 +59,19 @@ CbcTaken =
 abbrev pub CtrTaken : Type 0
 CtrTaken = (n start source destination : ℕ) → (ctrRefusal n start source destination ≡ 0) ↔ (Legal n × (start ≡ 16 * n) × (destination ≡ source))
 
+abbrev pub TapesTaken : Type 0
+TapesTaken = (tape : List ℕ) (answers : ℕ) → (run tape answers .number ≡ 0) ↔ ((answers ≡ 65537) × (length tape ≤ 65536))
+
 -- "Everything else, from any caller, is refused with document 01's number in its order of checks, and what the refusal returns and leaves
 -- in each buffer is fixed there." The numbers in their order are expandRefusal, blockRefusal, cbcRefusal and ctrRefusal, which the operations
--- of demand 2 return for all arguments. What they leave and return:
+-- of demand 2 return for all arguments; of the tape they are in its `step` and `run`, to which each answer of the code is equal:
+abbrev pub Steps : Tape → List ℕ → Stepped → List ℕ → List ℕ → Type 0
+Steps t rest answer before after = let a = step t rest (length before) in (answer ≡ tape.returned a) × (after ≡ over (a .written) before)
+
+abbrev pub WorksTape : List ℕ → Answered → List ℕ → List ℕ → Type 0
+WorksTape tape answer before after = let a = run tape (length before) in (answer ≡ tape-run.returned a) × (after ≡ over (a .written) before)
+
+-- What a refusal leaves and returns elsewhere:
 abbrev pub BuffersKept : Type 0
 BuffersKept = (number : ℕ) (result before : List ℕ) → (number ≡ 0 → ⊥) → outcome number result before ≡ before
 

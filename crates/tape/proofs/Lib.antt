@@ -1,0 +1,5 @@
+pub mod Cases
+pub mod Ways
+pub mod Bounds
+pub mod Accepted
+pub mod Used
