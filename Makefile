@@ -1,7 +1,8 @@
 # make run    the main job: document 01's example tape, made from text, worked, and shown with its answers
 # make test   the gate
+# make lib    the static library and its header, to target/dist
 # make bench  times the proved code against C
-.PHONY: run test bench
+.PHONY: run test lib bench
 
 run:
 	rt check tape_program
@@ -13,6 +14,12 @@ run:
 
 test:
 	tests/gate.sh
+
+lib:
+	rt staticlib labyrinth_c
+	mkdir -p target/dist
+	cp target/staticlib/liblabyrinth_c.a target/dist/liblabyrinth.a
+	cp include/labyrinth.h target/dist/labyrinth.h
 
 bench:
 	rt staticlib bench_blocks

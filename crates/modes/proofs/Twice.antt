@@ -9,11 +9,11 @@ use Rattle.labyrinth.specs.Refusals.{outcome}
 use Rattle.labyrinth.proofs.Operations.{refused-keeps}
 use Rattle.modes.specs.Refusals.{firstOf}
 
-first-refused : (a b : ℕ) → (a ≡ 0 → ⊥) → a ≡ firstOf a b
+pub first-refused : (a b : ℕ) → (a ≡ 0 → ⊥) → a ≡ firstOf a b
 unfolding firstOf
 first-refused a b h = rw (ne-eqb a 0 h)
 
-first-passed : (a b : ℕ) → a ≡ 0 → b ≡ firstOf a b
+pub first-passed : (a b : ℕ) → a ≡ 0 → b ≡ firstOf a b
 unfolding firstOf
 first-passed a b h = rw (eq-eqb a 0 h)
 

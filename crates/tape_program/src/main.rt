@@ -54,6 +54,9 @@ fn main() {
     let done = tape_run::run(&tape[..length], &mut answers);
     let written = done.length;
     if !io::write_all(STDOUT_FILENO, &answers[..written]) {
-        io::write_all(STDERR_FILENO, b"tape_program: the answers cannot be written\n");
+        io::write_all(
+            STDERR_FILENO,
+            b"tape_program: the answers cannot be written\n",
+        );
     }
 }

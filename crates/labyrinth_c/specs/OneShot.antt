@@ -1,0 +1,17 @@
+-- A key expanded and used at once: the working key, and the number, expansion's before the operation's own.
+-- Assumes nothing.
+use Prim.Native.Nat.{ℕ}
+use mathlib.Core.List.{List}
+use lib.ListN.{length}
+use Rattle.labyrinth.specs.declared.WorkingKey.{WorkingKey}
+use Rattle.labyrinth.specs.Cipher.{article}
+use Rattle.labyrinth.specs.Refusals.{expandRefusal, expansion}
+use Rattle.modes.specs.Refusals.{firstOf}
+
+-- the working key that a key expands to; n = 0 and zeros if it is refused
+unfoldable pub keyOf : ℕ → ℕ → List ℕ → WorkingKey
+keyOf n l key = expansion (article .SM) n l key (expandRefusal n l (length key)) .key
+
+-- expansion's number, or if it is 0 the operation's
+abbrev pub numberOf : ℕ → ℕ → List ℕ → ℕ → ℕ
+numberOf n l key operation = firstOf (expandRefusal n l (length key)) operation
