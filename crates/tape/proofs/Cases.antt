@@ -1,14 +1,14 @@
 -- Which rule of the definition applies, as the code tests it.
 -- Assumes nothing.
 use mathlib.Core.Path.{_≡_, refl, sym, ap, ap₂, _∙_}
-use mathlib.Core.Bool.{Bool, true, false, not, false≢true}
+use mathlib.Core.Bool.{Bool, true, false, false≢true}
 use mathlib.Core.List.{List, [], _∷_, _++_}
 use Prim.Native.Nat.{ℕ, zero, suc, _+_, _-_, _*_, _≤_, _<_}
 use native.Mathlib.Omega.{arith}
 use borrow.Author.Tests.{eq-eqb, ne-eqb, lt-ltb, le-ltb}
 use lib.Dec.{eqb}
 use lib.ListN.{length, getD, take, drop, set, length-take, length-drop}
-use lib.Seq.{take-all, take-take, set-split, drop-drop, length-take-le}
+use lib.Seq.{take-all, take-take, set-split, drop-drop}
 use Rattle.field.specs.Mixing.{mix}
 use Rattle.field.specs.Published.{row}
 use Rattle.labyrinth.specs.declared.Expanded.{Expanded}

@@ -1,21 +1,18 @@
 -- A step's answers depend on the used words of the working key only.
 -- Assumes nothing.
-use mathlib.Core.Path.{_≡_, refl, sym, ap, ap₂, _∙_, subst}
+use mathlib.Core.Path.{_≡_, refl, ap, ap₂, _∙_, subst}
 use mathlib.Core.Bool.{Bool, true, false, not}
-use mathlib.Core.List.{List, [], _∷_}
+use mathlib.Core.List.{List, _∷_}
 use Prim.Native.Nat.{ℕ, zero, suc, _*_}
 use lib.Dec.{eqb, ltb}
 use lib.ListN.{length, getD, take, drop}
-use Rattle.field.specs.Mixing.{mix}
-use Rattle.field.specs.Published.{row}
-use Rattle.labyrinth.specs.Blocks.{each, words, bytes}
 use Rattle.labyrinth.specs.Cipher.{article}
 use Rattle.labyrinth.specs.Keys.{E, U}
 use Rattle.labyrinth.specs.Refusals.{unless, legal}
 use Rattle.labyrinth.proofs.Agree.{SameUsed, E-used, U-used}
 use Rattle.operands.specs.Operands.{zeros}
 use Rattle.tape.specs.declared.Tape.{Tape}
-use Rattle.tape.specs.Steps.{Answer, ended, answers, refuses, ends, when, whole, judged, keyRefusal, setKey, mapRefusal, mapBlock, mixWord, command, atEnd, step}
+use Rattle.tape.specs.Steps.{Answer, ended, answers, ends, when, whole, judged, keyRefusal, setKey, mapRefusal, mapBlock, mixWord, command, step}
 
 -- two states with the same n, the same first 8n words and the same marks
 pub record Alike (t u : Tape) : Type 0 where

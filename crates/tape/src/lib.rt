@@ -2,10 +2,10 @@
 use labyrinth::WorkingKey;
 ghost use mathlib.Core.Path.{_≡_};
 ghost use mathlib.Core.List.{[], _∷_};
-ghost use Prim.Native.Nat.{_*_, _≤_, _<_};
+ghost use Prim.Native.Nat.{_*_, _<_};
 ghost use lib.ListN.{length, getD};
 ghost use Rattle.labyrinth.specs.Working.{Size, way};
-ghost use Rattle.tape.specs.Steps.{fresh, ended, answers, refuses, ends, atEnd, whole, keyRefusal, setKey, mapRefusal, mapBlock, mixWord, command, step, returned, over};
+ghost use Rattle.tape.specs.Steps.{fresh, ended, answers, refuses, ends, atEnd, keyRefusal, setKey, mapRefusal, mapBlock, mixWord, command, step, returned, over};
 
 // The state of a tape: the working key, whether one was set, and whether the tape has ended. One made by hand is taken too.
 pub struct Tape {
