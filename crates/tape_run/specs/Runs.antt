@@ -1,4 +1,4 @@
--- A whole tape, by its steps (document 01: the tape program 'steps through the tape until it is ended').
+-- A whole tape, by its steps (document 01: the tape program 'steps through the tape .. until it is ended').
 -- Assumes nothing.
 use Prim.Native.Nat.{ℕ, zero, suc}
 use mathlib.Core.Bool.{not}
