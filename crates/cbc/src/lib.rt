@@ -10,10 +10,11 @@ ghost use lib.ListN.{length, take, drop};
 ghost use Rattle.labyrinth.specs.Cipher.{article};
 ghost use Rattle.labyrinth.specs.Keys.{E, U};
 ghost use Rattle.labyrinth.specs.Refusals.{outcome};
-ghost use Rattle.labyrinth.specs.Working.{Size, lendable, tableParts, lineBytes};
+ghost use Rattle.labyrinth.specs.Working.{Size, lendable, tableParts, lineBytes, way};
 ghost use Rattle.modes.specs.Strings.{xorBytes};
 ghost use Rattle.modes.specs.Cbc.{cbcSeal, cbcOpen};
 ghost use Rattle.modes.specs.Refusals.{cbcRefusal};
+ghost use Rattle.cbc.specs.Either.{chained};
 
 // Seals a block after the sealed block that chain holds. Then chain holds the new one.
 fn seal_block(
@@ -103,42 +104,51 @@ fn open_blocks(
     }
 }
 
-// Seals a run with the tables lent.
-fn seal_run(
+// Seals a run or, with back, opens it, with the tables lent.
+fn chain_run(
     t: &[u64],
     s: &[u8; 256],
     u: &[u8; 256],
     n: usize,
     ks: &[u64; 80],
+    back: bool,
     start: &[u8],
     src: &[u8],
     dst: &mut [u8],
 )
     requires { ⌜ Size n × (length (now start) ≡ 16 * n) × (length (now src) % (16 * n) ≡ 0) × (length (now dst) ≡ length (now src)) × (lendable (length (now t)) ≡ true) ⌝ }
-    ensures { λ _. ⌜ now (dst .exit) ≡ cbcSeal (lineBytes (tableParts (now (s .entry)) (now (u .entry)) (now (t .entry))) n (now (ks .entry))) (16 * n) (now (start .entry)) (now (src .entry)) ⌝ }
+    ensures { λ _. ⌜ now (dst .exit) ≡ chained back (lineBytes (tableParts (now (s .entry)) (now (u .entry)) (now (t .entry))) n (now (ks .entry))) (16 * n) (now (start .entry)) (now (src .entry)) ⌝ }
 {
     let size = start.len();
     let mut chain = strings::in_room(start);
-    seal_blocks(t, s, u, n, ks, &mut chain[..size], src, dst);
+    if back {
+        open_blocks(t, s, u, n, ks, &mut chain[..size], src, dst);
+    } else {
+        seal_blocks(t, s, u, n, ks, &mut chain[..size], src, dst);
+    }
 }
 
-// Opens a run with the tables lent.
-fn open_run(
-    t: &[u64],
-    s: &[u8; 256],
-    u: &[u8; 256],
-    n: usize,
-    ks: &[u64; 80],
-    start: &[u8],
-    src: &[u8],
-    dst: &mut [u8],
-)
-    requires { ⌜ Size n × (length (now start) ≡ 16 * n) × (length (now src) % (16 * n) ≡ 0) × (length (now dst) ≡ length (now src)) × (lendable (length (now t)) ≡ true) ⌝ }
-    ensures { λ _. ⌜ now (dst .exit) ≡ cbcOpen (lineBytes (tableParts (now (s .entry)) (now (u .entry)) (now (t .entry))) n (now (ks .entry))) (16 * n) (now (start .entry)) (now (src .entry)) ⌝ }
+// Seals or, with back, opens by the published tables.
+fn either_way(k: WorkingKey, back: bool, start: &[u8], src: &[u8], dst: &mut [u8]) -> u8
+    ensures number { λ r. ⌜ r ≡ cbcRefusal (k .n) (length (now (start .entry))) (length (now (src .entry))) (length (now (dst .entry))) ⌝ }
+    ensures run { λ r. ⌜ now (dst .exit) ≡ outcome r (chained back (way back (k .n) (k .words)) (16 * k .n) (now (start .entry)) (now (src .entry))) (now (dst .entry)) ⌝ }
 {
-    let size = start.len();
-    let mut chain = strings::in_room(start);
-    open_blocks(t, s, u, n, ks, &mut chain[..size], src, dst);
+    let n = k.n;
+    let number = run_refusals::cbc_refusal(n, start.len(), src.len(), dst.len());
+    if number != 0 {
+        return number;
+    }
+    let t = tables::merged_table();
+    let s = tables::sbox();
+    let u = tables::sbox_inverse();
+    let ks = schedule::schedule(k, back);
+    if spread::pays(n, src.len()) {
+        let eight = spread::spread_table(&t);
+        chain_run(&eight, &s, &u, n, &ks, back, start, src, dst);
+    } else {
+        chain_run(&t, &s, &u, n, &ks, back, start, src, dst);
+    }
+    0
 }
 
 // Seals src to dst, after the start block.
@@ -146,22 +156,7 @@ pub fn seal(k: WorkingKey, start: &[u8], src: &[u8], dst: &mut [u8]) -> u8
     ensures number { λ r. ⌜ r ≡ cbcRefusal (k .n) (length (now (start .entry))) (length (now (src .entry))) (length (now (dst .entry))) ⌝ }
     ensures run { λ r. ⌜ now (dst .exit) ≡ outcome r (cbcSeal (E article (k .n) (k .words)) (16 * k .n) (now (start .entry)) (now (src .entry))) (now (dst .entry)) ⌝ }
 {
-    let n = k.n;
-    let number = run_refusals::cbc_refusal(n, start.len(), src.len(), dst.len());
-    if number != 0 {
-        return number;
-    }
-    let t = tables::merged_table();
-    let s = tables::sbox();
-    let u = tables::sbox_inverse();
-    let ks = schedule::schedule(k, false);
-    if spread::pays(n, src.len()) {
-        let eight = spread::spread_table(&t);
-        seal_run(&eight, &s, &u, n, &ks, start, src, dst);
-    } else {
-        seal_run(&t, &s, &u, n, &ks, start, src, dst);
-    }
-    0
+    either_way(k, false, start, src, dst)
 }
 
 // Opens src to dst, after the start block.
@@ -169,20 +164,5 @@ pub fn open(k: WorkingKey, start: &[u8], src: &[u8], dst: &mut [u8]) -> u8
     ensures number { λ r. ⌜ r ≡ cbcRefusal (k .n) (length (now (start .entry))) (length (now (src .entry))) (length (now (dst .entry))) ⌝ }
     ensures run { λ r. ⌜ now (dst .exit) ≡ outcome r (cbcOpen (U article (k .n) (k .words)) (16 * k .n) (now (start .entry)) (now (src .entry))) (now (dst .entry)) ⌝ }
 {
-    let n = k.n;
-    let number = run_refusals::cbc_refusal(n, start.len(), src.len(), dst.len());
-    if number != 0 {
-        return number;
-    }
-    let t = tables::merged_table();
-    let s = tables::sbox();
-    let u = tables::sbox_inverse();
-    let ks = schedule::schedule(k, true);
-    if spread::pays(n, src.len()) {
-        let eight = spread::spread_table(&t);
-        open_run(&eight, &s, &u, n, &ks, start, src, dst);
-    } else {
-        open_run(&t, &s, &u, n, &ks, start, src, dst);
-    }
-    0
+    either_way(k, true, start, src, dst)
 }

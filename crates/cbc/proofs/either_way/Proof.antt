@@ -6,11 +6,11 @@ use mathlib.Core.List.{List}
 use Prim.Native.Nat.{ℕ, _*_}
 use lib.ListN.{length}
 use Rattle.labyrinth.proofs.Operations.{HandedOut, handed-one, handed-eight, handed-lendable, lent-run, refused-keeps}
-use Rattle.modes.specs.Cbc.{cbcOpen}
 use Rattle.modes.proofs.Refusals.{Cbc-taken, cbc-taken}
+use Rattle.cbc.specs.Either.{chained}
 use borrow.Author.Needs.{needs}
-use Rattle.cbc.proofs.open.Statement.{statement}
-use Rattle.cbc.proofs.open.Tie as tie
+use Rattle.cbc.proofs.either_way.Statement.{statement}
+use Rattle.cbc.proofs.either_way.Tie as tie
 
 cbc-refusal-requires : tie.Need-cbc-refusal-requires
 cbc-refusal-requires c κs = search needs
@@ -40,8 +40,8 @@ pays-requires c κs = search needs
 spread-table-requires : tie.Need-spread-table-requires
 spread-table-requires c κs = search needs
 
-slice-aggregate-open-run : tie.Need-slice-aggregate-open-run
-slice-aggregate-open-run c = search needs
+slice-aggregate-chain-run : tie.Need-slice-aggregate-chain-run
+slice-aggregate-chain-run c = search needs
 
 -- the table in either form
 eight : (c : tie.After-spread-table) → HandedOut (c .spread-table .result)
@@ -50,14 +50,14 @@ eight c = handed-eight (c .before .before .before .before .before .before .befor
 one : (c : tie.After-merged-table) → HandedOut (c .merged-table .result)
 one c = handed-one (c .merged-table .ensures)
 
-open-run-requires : tie.Need-open-run-requires
-open-run-requires c κs = let k = taken (c .before .before .before .before .before .before .before .before .before .before .before .before .before) in (k .size, k .start, k .whole, k .same, handed-lendable (eight (c .before .before .before .before .before)))
+chain-run-requires : tie.Need-chain-run-requires
+chain-run-requires c κs = let k = taken (c .before .before .before .before .before .before .before .before .before .before .before .before .before) in (k .size, k .start, k .whole, k .same, handed-lendable (eight (c .before .before .before .before .before)))
 
-slice-aggregate-open-run-2 : tie.Need-slice-aggregate-open-run-2
-slice-aggregate-open-run-2 c = search needs
+slice-aggregate-chain-run-2 : tie.Need-slice-aggregate-chain-run-2
+slice-aggregate-chain-run-2 c = search needs
 
-open-run-requires-2 : tie.Need-open-run-requires-2
-open-run-requires-2 c κs = let k = taken (c .before .before .before .before .before .before .before .before .before .before .before) in (k .size, k .start, k .whole, k .same, handed-lendable (one (c .before .before .before .before .before .before .before .before .before .before)))
+chain-run-requires-2 : tie.Need-chain-run-requires-2
+chain-run-requires-2 c κs = let k = taken (c .before .before .before .before .before .before .before .before .before .before .before) in (k .size, k .start, k .whole, k .same, handed-lendable (one (c .before .before .before .before .before .before .before .before .before .before)))
 
 same-length : tie.Need-same-length
 same-length c = search needs
@@ -67,8 +67,8 @@ returns-2 c =
     let e = c .before .before .before .before .before .before .before .before .before .before .before .before .before .before .before .before in
     let a = e .before .before .before .before .before .args in (
       sym (e .if1 .left) ∙ e .before .cbc-refusal .ensures,
-      lent-run true (a .k .n) (taken e .size) (a .k .words) (c .before .before .before .before .before .before .before .before .before .before .before .before .before .before .sbox .ensures) (c .before .before .before .before .before .before .before .before .before .before .before .before .before .sbox-inverse .ensures) (eight (c .before .before .before .before .before .before .before .before)) (c .before .before .before .before .before .before .before .before .before .before .before .before .schedule .ensures)
-          (λ (f : List ℕ → List ℕ) (i : List ℕ). cbcOpen f (16 * a .k .n) i (a .src .now)) (a .start .now) refl (c .before .before .open-run .ensures),
+      lent-run (a .back) (a .k .n) (taken e .size) (a .k .words) (c .before .before .before .before .before .before .before .before .before .before .before .before .before .before .sbox .ensures) (c .before .before .before .before .before .before .before .before .before .before .before .before .before .sbox-inverse .ensures) (eight (c .before .before .before .before .before .before .before .before)) (c .before .before .before .before .before .before .before .before .before .before .before .before .schedule .ensures)
+          (λ (f : List ℕ → List ℕ) (i : List ℕ). chained (a .back) f (16 * a .k .n) i (a .src .now)) (a .start .now) refl (c .before .before .chain-run .ensures),
     )
 
 same-length-2 : tie.Need-same-length-2
@@ -79,12 +79,12 @@ returns-3 c =
     let e = c .before .before .before .before .before .before .before .before .before .before .before .before .before .before in
     let a = e .before .before .before .before .before .args in (
       sym (e .if1 .left) ∙ e .before .cbc-refusal .ensures,
-      lent-run true (a .k .n) (taken e .size) (a .k .words) (c .before .before .before .before .before .before .before .before .before .before .before .before .sbox .ensures) (c .before .before .before .before .before .before .before .before .before .before .before .sbox-inverse .ensures) (one (c .before .before .before .before .before .before .before .before .before .before .before .before .before)) (c .before .before .before .before .before .before .before .before .before .before .schedule .ensures)
-          (λ (f : List ℕ → List ℕ) (i : List ℕ). cbcOpen f (16 * a .k .n) i (a .src .now)) (a .start .now) refl (c .before .before .open-run2 .ensures),
+      lent-run (a .back) (a .k .n) (taken e .size) (a .k .words) (c .before .before .before .before .before .before .before .before .before .before .before .before .sbox .ensures) (c .before .before .before .before .before .before .before .before .before .before .before .sbox-inverse .ensures) (one (c .before .before .before .before .before .before .before .before .before .before .before .before .before)) (c .before .before .before .before .before .before .before .before .before .before .schedule .ensures)
+          (λ (f : List ℕ → List ℕ) (i : List ℕ). chained (a .back) f (16 * a .k .n) i (a .src .now)) (a .start .now) refl (c .before .before .chain-run2 .ensures),
     )
 
-pub open-spec : {M : Type 1} → statement M
-open-spec =
+pub either-way-spec : {M : Type 1} → statement M
+either-way-spec =
     tie.close
     (tie.spec
     cbc-refusal-requires
@@ -95,10 +95,10 @@ open-spec =
     schedule-requires
     pays-requires
     spread-table-requires
-    slice-aggregate-open-run
-    open-run-requires
-    slice-aggregate-open-run-2
-    open-run-requires-2
+    slice-aggregate-chain-run
+    chain-run-requires
+    slice-aggregate-chain-run-2
+    chain-run-requires-2
     same-length
     returns-2
     same-length-2
