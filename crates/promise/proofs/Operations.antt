@@ -23,15 +23,6 @@ use Rattle.round_trips.proofs.cbc_there_and_back as cbc-there-and-back
 use Rattle.round_trips.proofs.ctr_there_and_back as ctr-there-and-back
 use Rattle.mixing.proofs.mix as mix-word
 
--- ---- demand 1: the tape
-
-module _ (κs : Lfts 2) where
-  pub steps : (a : _) (z : _) (e : _) → tape-step.Reads.Learnt κs a z e → Steps (a .0) (a .1 .0 .now) z (a .1 .1 .0 .now) (e .1 .1 .0 .now)
-  steps a z e h = h
-
-  pub works-tape : (a : _) (z : _) (e : _) → tape-run.Reads.Learnt κs a z e → WorksTape (a .0 .now) z (a .1 .0 .now) (e .1 .0 .now)
-  works-tape a z e h = h
-
 -- ---- demand 2
 
 module _ (κs : Lfts 1) where
@@ -68,6 +59,14 @@ module _ (κs : Lfts 3) where
   pub runs-ctr : (a : _) (z : _) (e : _) → run.Reads.Learnt κs a z e
       → RunsCtr (a .0) (a .1 .0 .now) (a .1 .1 .0) (a .1 .1 .1 .0 .now) z (a .1 .1 .1 .1 .0 .now) (e .1 .1 .1 .1 .0 .now)
   runs-ctr a z e h = h
+
+-- the tape
+module _ (κs : Lfts 2) where
+  pub steps : (a : _) (z : _) (e : _) → tape-step.Reads.Learnt κs a z e → Steps (a .0) (a .1 .0 .now) z (a .1 .1 .0 .now) (e .1 .1 .0 .now)
+  steps a z e h = h
+
+  pub works-tape : (a : _) (z : _) (e : _) → tape-run.Reads.Learnt κs a z e → WorksTape (a .0 .now) z (a .1 .0 .now) (e .1 .0 .now)
+  works-tape a z e h = h
 
 -- ---- demand 3: the round trips of the operations, and mixing
 

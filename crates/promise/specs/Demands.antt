@@ -64,14 +64,7 @@ TapesTaken = (tape : List ℕ) (answers : ℕ) → (run tape answers .number ≡
 
 -- "Everything else, from any caller, is refused with document 01's number in its order of checks, and what the refusal returns and leaves
 -- in each buffer is fixed there." The numbers in their order are expandRefusal, blockRefusal, cbcRefusal and ctrRefusal, which the operations
--- of demand 2 return for all arguments; of the tape they are in its `step` and `run`, to which each answer of the code is equal:
-abbrev pub Steps : Tape → List ℕ → Stepped → List ℕ → List ℕ → Type 0
-Steps t rest answer before after = let a = step t rest (length before) in (answer ≡ tape.returned a) × (after ≡ over (a .written) before)
-
-abbrev pub WorksTape : List ℕ → Answered → List ℕ → List ℕ → Type 0
-WorksTape tape answer before after = let a = run tape (length before) in (answer ≡ tape-run.returned a) × (after ≡ over (a .written) before)
-
--- What a refusal leaves and returns elsewhere:
+-- of demand 2 return for all arguments; the tape's are in `step` and `run`. What a refusal leaves and returns, the tape's step apart:
 abbrev pub BuffersKept : Type 0
 BuffersKept = (number : ℕ) (result before : List ℕ) → (number ≡ 0 → ⊥) → outcome number result before ≡ before
 
@@ -114,6 +107,13 @@ abbrev pub RunsCtr : WorkingKey → List ℕ → ℕ → List ℕ → ℕ → Li
 RunsCtr k start q source number before after =
     (number ≡ ctrRefusal (k .n) (length start) (length source) (length before))
     × (after ≡ outcome number (ctr (E article (k .n) (k .words)) (16 * k .n) start q source) before)
+
+-- "The tape reader answers each command as document 01 lays down."
+abbrev pub Steps : Tape → List ℕ → Stepped → List ℕ → List ℕ → Type 0
+Steps t rest answer before after = let a = step t rest (length before) in (answer ≡ tape.returned a) × (after ≡ over (a .written) before)
+
+abbrev pub WorksTape : List ℕ → Answered → List ℕ → List ℕ → Type 0
+WorksTape tape answer before after = let a = run tape (length before) in (answer ≡ tape-run.returned a) × (after ≡ over (a .written) before)
 
 -- ---- Demand 3
 
