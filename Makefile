@@ -2,7 +2,8 @@
 # make test   the gate
 # make lib    the static library and its header, to target/dist
 # make bench  times the proved code against C
-.PHONY: run test lib bench
+# make paper  the paper for the successor for print, to target/OPENING-A-PAGE.pdf
+.PHONY: run test lib bench paper
 
 run:
 	rt check tape_program
@@ -25,3 +26,8 @@ bench:
 	rt staticlib bench_blocks
 	gcc -std=c11 -O3 -Wall -Wextra -o target/bench bench/bench.c bench/labyrinth.c target/staticlib/libbench_blocks.a
 	target/bench
+
+paper:
+	mkdir -p target
+	tools/paper_to_ms docs/OPENING-A-PAGE.md >target/OPENING-A-PAGE.ms
+	groff -k -t -ms -Tpdf -P-pa4 -P-e target/OPENING-A-PAGE.ms >target/OPENING-A-PAGE.pdf

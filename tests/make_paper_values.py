@@ -1,0 +1,484 @@
+#!/usr/bin/env python3
+"""Fills the value blocks of docs/OPENING-A-PAGE.md, made from the archivists' program and vectors alone. A value block is a fenced block whose
+first line names it; the text around the blocks stays as it is.
+
+    tests/make_paper_values.py            writes the paper anew
+    tests/make_paper_values.py --check    fails if the paper's blocks are not what would be written
+"""
+import hashlib
+import json
+import os
+import re
+import sys
+
+sys.dont_write_bytecode = True
+HERE = os.path.dirname(os.path.abspath(__file__))
+PAPER = os.path.join(os.path.dirname(HERE), "docs", "OPENING-A-PAGE.md")
+sys.path.insert(0, os.path.join(HERE, "archivists"))
+import labyrinth as lab
+import modes
+
+FENCE = re.compile(r"^```([a-z0-9-]+)\n(.*?)^```$", re.M | re.S)
+ADDED, XORED = 0x1084210842108421, 0x4444444444444444  # of delta, held to the archivists' below
+TEXT = (
+    "This page was sealed for you who open it. Its paper is gone and these bytes are all that is left of it. "
+    "If you can read this sentence, your program is right here. "
+)
+
+
+# ---- how values are written
+
+def weighted(data):
+    return sum((i + 1) * b for i, b in enumerate(data))
+
+
+def byte_lines(name, data):
+    """Sixteen bytes a line in groups of four, and the line's check sum."""
+    for at in range(0, len(data), 16):
+        line = data[at : at + 16]
+        groups = " ".join(line[i : i + 4].hex().upper() for i in range(0, len(line), 4))
+        yield f"{name:<8}{groups:<35}  : {weighted(line):04X}"
+
+
+def word(w):
+    return f"0x{w:016X}"
+
+
+def word_lines(pairs):
+    """Pairs of a name and a half-block: two names a line where a half-block is one word, else two words a line."""
+    if all(len(words) == 1 for _, words in pairs):
+        cells = [f"{name:<13} {word(words[0])}" for name, words in pairs]
+        for at in range(0, len(cells), 2):
+            yield " | ".join(cells[at : at + 2])
+    else:
+        for name, words in pairs:
+            for at in range(0, len(words), 2):
+                yield f"{name:<13} " + " ".join(word(w) for w in words[at : at + 2])
+
+
+# ---- the tables
+
+def table_1():
+    yield "     " + " ".join(f"{c:02X}" for c in range(16)) + "   sum"
+    for row in range(16):
+        entries = lab.S[16 * row : 16 * row + 16]
+        yield f"{16 * row:02X}   " + " ".join(f"{b:02X}" for b in entries) + f" : {weighted(entries):04X}"
+
+
+def constants():
+    yield f"field     0x{lab.F_MBN:X}"
+    yield "row       " + " ".join(f"{g:02X}" for g in lab.G)
+    for t, c in enumerate(lab.XC):
+        yield f"xc_{t}      {word(c)}"
+    for w in (0, 1, 0x0123456789ABCDEF, 2**64 - ADDED, 2**64 - 1):
+        if lab.delta([w]) != [(w + ADDED) % 2**64 ^ XORED]:
+            raise SystemExit("make_paper_values.py: other constants of delta")
+    yield f"delta-add {word(ADDED)}"
+    yield f"delta-xor {word(XORED)}"
+    it, rounds, ft = lab.working_key_encipher(list(range(8)))
+    yield f"IT        {it[0]} {it[1]}"
+    yield "rounds    " + " ".join(map(str, rounds))
+    yield f"FT        {ft[0]} {ft[1]}"
+
+
+def sources():
+    for n in (1, 2, 4):
+        places = lab.half_to_bytes(lab.P(lab.bytes_to_half(list(range(8 * n)))))
+        for at in range(0, 8 * n, 8):
+            yield f"{n}  {at:>2}  " + " ".join(f"{p:>2}" for p in places[at : at + 8])
+
+
+def small_values():
+    for x in (0x00, 0x53, 0xFF):
+        yield f"S          {x:02X} = {lab.S[x]:02X}"
+    for x in (0x00, 0x54, 0xFF):
+        yield f"S-inverse  {x:02X} = {lab.S_INV[x]:02X}"
+    for a, b in ((0x80, 0x02), (0x2D, 0x80), (0xFF, 0x1F)):
+        yield f"product    {a:02X} {b:02X} = {lab.gf_mul(a, b):02X}"
+    for w in (0x1, 0x100, 0x0101010101010101, 0x80, 0x0123456789ABCDEF):
+        yield f"mix        {word(w)} = {word(lab.cmbn_poly(w))}"
+    eight = 0x0123456789ABCDEF
+    for _ in range(8):
+        eight = lab.cmbn_poly(eight)
+    yield f"mix-8      {word(0x0123456789ABCDEF)} = {word(eight)}"
+    for t in range(4):
+        yield f"SL-{t}       {word(0)} = {word(lab.SL(t, 0))}"
+    yield f"SL-0       {word(0x0123456789ABCDEF)} = {word(lab.SL(0, 0x0123456789ABCDEF))}"
+    for w in (0, 2**64 - 1):
+        yield f"delta      {word(w)} = {word(lab.delta([w])[0])}"
+    for left, right in ((1, 0), (0x0123456789ABCDEF, 0x1122334455667788)):
+        (a,), (b,) = lab.IMix([left], [right])
+        yield f"IMix       {word(left)} {word(right)}"
+        yield f"         = {word(a)} {word(b)}"
+
+
+# ---- the traces
+
+def halves(n, data):
+    return [lab.bytes_to_half(data[at : at + 8 * n]) for at in range(0, len(data), 8 * n)]
+
+
+def f_parts(k, x):
+    """The four steps of F, from the archivists' functions; and they are F."""
+    added = lab.vadd(x, k)
+    taken = lab.P(added)
+    substituted = lab.sub_half(lab.S, taken)
+    mixed = [lab.cmbn_poly(w) for w in substituted]
+    out = lab.F(k, x)
+    if out != [w ^ lab.XC[t] for t, w in enumerate(mixed)]:
+        raise SystemExit("make_paper_values.py: the steps of F are not F")
+    return [("sum", added), ("permuted", taken), ("substituted", substituted), ("mixed", mixed), ("F", out)]
+
+
+def trace_expansion(n, key, whole):
+    uk = halves(n, key)
+    l, k = len(uk), lab.expand_key(uk)
+    yield from byte_lines("key", key)
+    total = [0] * n
+    for half in uk:
+        total = lab.vxor(total, half)
+    register = lab.vrol(total, 29)
+    yield from word_lines([(f"k_{j}", k[j]) for j in range(l)])
+    yield from word_lines([("XOR", total), ("register", register)])
+    for j in range(l, 8):
+        register = lab.delta(register)
+        if whole:
+            yield ""
+            yield f"j {j}"
+            yield from word_lines([("register", register), *f_parts(register, k[j - 1]), (f"k_{j - l}", k[j - l]), (f"k_{j}", k[j])])
+        else:
+            yield from word_lines([(f"k_{j}", k[j])])
+
+
+def trace_it(n, key, block):
+    kl, kr = lab.working_key_encipher(lab.expand_key(halves(n, key)))[0]
+    right, left = halves(n, block)
+    yield from byte_lines("block", block)
+    out = [("L", left), ("R", right), ("key-L", kl), ("key-R", kr)]
+    a, b = lab.vadd(left, kl), lab.vadd(right, kr)
+    out += [("sum-L", a), ("sum-R", b)]
+    a, b = lab.sub_half(lab.S, a), lab.sub_half(lab.S, b)
+    out += [("subst-L", a), ("subst-R", b)]
+    a, b = lab.vrol(a, 2), lab.vror(b, 2)
+    out += [("rotated-L", a), ("rotated-R", b)]
+    out += imix_parts(a, b, "L_0", "R_0")
+    if lab.IT((kl, kr), (left, right)) != (out[-2][1], out[-1][1]):
+        raise SystemExit("make_paper_values.py: the steps of IT are not IT")
+    yield from word_lines(out)
+
+
+def imix_parts(a, b, left, right):
+    d = lab.vxor(a, b)
+    sigma = [lab.rol64(d[0], 28), *d[1:]]
+    c, e = lab.IMix(a, b)
+    return [("XOR", d), ("sigma", sigma), (left, c), (right, e)]
+
+
+def states(n, key, block):
+    """The working key, and the halves after 0, 1, .., 16 rounds."""
+    wk = lab.working_key_encipher(lab.expand_key(halves(n, key)))
+    right, left = halves(n, block)
+    out = [lab.IT(wk[0], (left, right))]
+    for i in range(16):
+        left, right = out[-1]
+        out.append((right, lab.vxor(left, lab.F(wk[1][i], right))))
+    return wk, out
+
+
+def trace_rounds(n, key, block, whole):
+    numbers = lab.working_key_encipher(list(range(8)))[1]
+    wk, state = states(n, key, block)
+    for i in range(16):
+        left, right = state[i]
+        if i:
+            yield ""
+        yield f"round {i} k_{numbers[i]}"
+        parts = [("subkey", wk[1][i]), *f_parts(wk[1][i], right)]
+        new = [(f"L_{i + 1}", state[i + 1][0]), (f"R_{i + 1}", state[i + 1][1])]
+        if whole or i == 0:
+            yield from word_lines([(f"L_{i}", left), (f"R_{i}", right), *parts, *new])
+        else:
+            yield from word_lines(new)
+
+
+def trace_ft(n, key, block):
+    (_, _, (kl, kr)), state = states(n, key, block)
+    left, right = state[16][1], state[16][0]
+    out = [("L", left), ("R", right), *imix_parts(left, right, "mixed-L", "mixed-R")]
+    a, b = out[-2][1], out[-1][1]
+    a, b = lab.vror(a, 2), lab.vrol(b, 2)
+    out += [("rotated-L", a), ("rotated-R", b)]
+    a, b = lab.sub_half(lab.S_INV, a), lab.sub_half(lab.S_INV, b)
+    out += [("subst-L", a), ("subst-R", b), ("key-L", kl), ("key-R", kr)]
+    a, b = lab.vsub(a, kl), lab.vsub(b, kr)
+    out += [("sealed-L", a), ("sealed-R", b)]
+    sealed = bytes(lab.half_to_bytes(b) + lab.half_to_bytes(a))
+    if sealed != lab.Labyrinth(n, key).encrypt_block(block):
+        raise SystemExit("make_paper_values.py: the trace is not the cipher")
+    yield from word_lines(out)
+    yield from byte_lines("sealed", sealed)
+
+
+# ---- the vectors
+
+with open(os.path.join(HERE, "archivists", "vectors.json")) as vectors_file:
+    BLOCKS = json.load(vectors_file)["block"]
+
+
+def found(n, l, name):
+    (v,) = [v for v in BLOCKS if (v["n"], v["l"], v["name"]) == (n, l, name)]
+    return [bytes.fromhex(v[part]) for part in ("key", "pt", "ct")]
+
+
+SIZES = [(n, l) for n in (1, 2, 4) for l in (2, 3, 4)]
+TRACED = {1: (2, "random-0"), 2: (3, "random-0"), 4: (4, "random-0")}
+
+
+def block_vectors(name):
+    for n, l in SIZES:
+        key, plain, sealed = found(n, l, name)
+        if (n, l) != SIZES[0]:
+            yield ""
+        yield f"block n {n} l {l}"
+        yield from byte_lines("key", key)
+        yield from byte_lines("plain", plain)
+        yield from byte_lines("sealed", sealed)
+
+
+def bytes_of(label, count):
+    out, i = b"", 0
+    while len(out) < count:
+        out += hashlib.sha256(f"{label} {i}".encode()).digest()
+        i += 1
+    return out[:count]
+
+
+def page(length):
+    return (TEXT * (length // len(TEXT) + 1)).encode("ascii")[:length]
+
+
+def cbc_vectors():
+    for at, (n, l, count) in enumerate(((1, 4, 3), (2, 2, 2), (4, 3, 2))):
+        key, start, plain = bytes_of(f"cbc key {n}", 8 * n * l), bytes_of(f"cbc start {n}", 16 * n), page(16 * n * count)
+        if at:
+            yield ""
+        yield f"cbc n {n} l {l}"
+        yield from byte_lines("key", key)
+        yield from byte_lines("start", start)
+        yield from byte_lines("plain", plain)
+        yield from byte_lines("sealed", modes.cbc_encrypt(lab.Labyrinth(n, key), start, plain))
+
+
+def ctr_vectors():
+    """Start blocks whose counters carry: n = 1 at once past all FF, n = 2 over 9 bytes, n = 4 by a large q over 8."""
+    runs = (
+        (1, 3, b"\xff" * 16, 1, 37),
+        (2, 4, bytes_of("ctr start 2", 23) + b"\xff" * 8 + b"\xfe", 1, 69),
+        (4, 2, bytes_of("ctr start 4", 64), 2**64 - 1, 133),
+    )
+    for at, (n, l, start, q, length) in enumerate(runs):
+        key, plain = bytes_of(f"ctr key {n}", 8 * n * l), page(length)
+        cipher = lab.Labyrinth(n, key)
+        if at:
+            yield ""
+        yield f"ctr n {n} l {l} q {q}"
+        yield from byte_lines("key", key)
+        yield from byte_lines("start", start)
+        yield from byte_lines("plain", plain)
+        blocks = (length + 16 * n - 1) // (16 * n)
+        for i in range(blocks):
+            counter = ((int.from_bytes(start, "big") + q + i) % 2 ** (128 * n)).to_bytes(16 * n, "big")
+            yield from byte_lines(f"count-{i}", counter)
+        yield from byte_lines("sealed", modes.ctr_crypt(cipher, start, q, plain))
+
+
+# ---- wrong readings: the archivists' program with a function exchanged, and put back
+
+def transposed(w):
+    b = lab.word_to_bytes(w)
+    out = [0] * 8
+    for i in range(8):
+        for j in range(8):
+            out[i] ^= lab.gf_mul(b[j], lab.G[(j - i) % 8])
+    return lab.bytes_to_word(out)
+
+
+def summed(w):
+    total = 0
+    for b in lab.word_to_bytes(w):
+        total ^= lab.TL[b]
+    return lab.rol64(total, 56)
+
+
+def sent(x):
+    n, v = len(x), lab.half_to_bytes(x)
+    out = [0] * (8 * n)
+    for i in range(8 * n):
+        out[9 * i % (8 * n)] = v[i]
+    return lab.bytes_to_half(out)
+
+
+def not_exchanged(wk, block):
+    left, right = lab.IT(wk[0], block)
+    for i in range(16):
+        left, right = right, lab.vxor(left, lab.F(wk[1][i], right))
+    return lab.FT(wk[2], (left, right))
+
+
+def same_way_it(k, block):
+    a, b = (lab.vrol(lab.sub_half(lab.S, lab.vadd(h, x)), 2) for h, x in zip(block, k))
+    return lab.IMix(a, b)
+
+
+def same_way_ft(k, block):
+    a, b = (lab.vsub(lab.sub_half(lab.S_INV, lab.vror(h, 2)), x) for h, x in zip(lab.IMix(*block), k))
+    return a, b
+
+
+TRUE_FT = lab.FT
+
+
+def added_ft(k, block):
+    left, right = TRUE_FT(([0] * len(k[0]), [0] * len(k[1])), block)
+    return lab.vadd(left, k[0]), lab.vadd(right, k[1])
+
+
+def imix_by(sigma_of):
+    def imix(left, right):
+        sigma = sigma_of(lab.vxor(left, right))
+        return lab.vxor(left, sigma), lab.vxor(right, sigma)
+    return imix
+
+
+def turned(x):
+    return [x[j - 1] for j in range(len(x))]
+
+
+def as_one(sign):
+    def add(x, y):
+        join = lambda h: sum(w << 64 * i for i, w in enumerate(h))
+        total = (join(x) + sign * join(y)) % 2 ** (64 * len(x))
+        return [total >> 64 * i & 2**64 - 1 for i in range(len(x))]
+    return add
+
+
+def expanded_by(first, late):
+    def expand(uk):
+        total = [0] * len(uk[0])
+        for half in uk:
+            total = lab.vxor(total, half)
+        register, k = first(total), list(uk)
+        for j in range(len(uk), 8):
+            if not late:
+                register = lab.delta(register)
+            k.append(lab.vxor(lab.F(register, k[j - 1]), k[j - len(uk)]))
+            if late:
+                register = lab.delta(register)
+        return k
+    return expand
+
+
+def crossed(way):
+    def keys(k):
+        (a, b), rounds, (c, d) = way(k)
+        return (b, a), rounds, (d, c)
+    return keys
+
+
+def reversed_words(data):
+    return b"".join(data[at : at + 8][::-1] for at in range(0, len(data), 8))
+
+
+def exchanged(data):
+    return data[len(data) // 2 :] + data[: len(data) // 2]
+
+
+def wrong_readings():
+    nibbles = [lab.S[(x % 16) * 16 + x // 16] for x in range(256)]
+    back = [nibbles.index(y) for y in range(256)]
+    plain = lambda data: data
+    other = [lab.bytes_to_word([lab.gf_mul(g, x, 0x1BD) for g in lab.G]) for x in range(256)]
+    readings = [
+        (dict(cmbn=summed), plain, plain),
+        (dict(cmbn=transposed), plain, plain),
+        (dict(TL=other), plain, plain),
+        (dict(P=sent), plain, plain),
+        (dict(EF=not_exchanged), plain, plain),
+        (dict(IT=same_way_it, FT=same_way_ft), plain, plain),
+        ({}, plain, exchanged),
+        ({}, reversed_words, reversed_words),
+        (dict(XC=[*lab.XC[:3], 0x3333333333333333]), plain, plain),
+        (dict(IMix=imix_by(lambda d: turned(lab.vrol(d, 28)))), plain, plain),
+        (dict(IMix=imix_by(lambda d: [lab.rol64(d[0], 28), *d[1:]])), plain, plain),
+        (dict(vadd=as_one(1), vsub=as_one(-1)), plain, plain),
+        (dict(expand_key=expanded_by(lambda x: lab.vrol(x, 29), True)), plain, plain),
+        (dict(expand_key=expanded_by(lambda x: lab.vror(x, 29), False)), plain, plain),
+        (dict(working_key_encipher=crossed(lab.working_key_encipher), working_key_decipher=crossed(lab.working_key_decipher)), plain, plain),
+        (dict(S=nibbles, S_INV=back), plain, plain),
+        (dict(FT=added_ft), plain, plain),
+    ]
+    for number, (parts, keys, blocks) in enumerate(readings, 1):
+        before = {name: getattr(lab, name) for name in parts}
+        for name, part in parts.items():
+            setattr(lab, name, part)
+        right, opens = {1: 0, 2: 0, 4: 0}, 0
+        for n, l in SIZES:
+            key, source, sealed = found(n, l, "random-1")
+            cipher = lab.Labyrinth(n, keys(key))
+            got = blocks(cipher.encrypt_block(blocks(source)))
+            right[n] += got == sealed
+            opens += blocks(cipher.decrypt_block(blocks(got))) == source
+        for name, part in before.items():
+            setattr(lab, name, part)
+        if any(count not in (0, 3) for count in right.values()) or opens not in (0, 9):
+            raise SystemExit(f"make_paper_values.py: wrong reading {number}: {right}, {opens}")
+        words = " ".join(f"{'same' if right[n] else 'differs':<8}" for n in (1, 2, 4))
+        yield f"{number:>2}   {words} {'opens' if opens else 'lost'}"
+
+
+def values():
+    traced = {n: (found(n, l, name)) for n, (l, name) in TRACED.items()}
+    out = {
+        "table-1": table_1(),
+        "constants": constants(),
+        "byte-sources": sources(),
+        "small-values": small_values(),
+        "trace-1-expansion": trace_expansion(1, traced[1][0], True),
+        "trace-1-it": trace_it(1, *traced[1][:2]),
+        "trace-1-rounds": trace_rounds(1, *traced[1][:2], True),
+        "trace-1-ft": trace_ft(1, *traced[1][:2]),
+        "vectors-counting": block_vectors("key-inc/block-inc"),
+        "vectors-mixed": block_vectors("random-1"),
+        "vectors-cbc": cbc_vectors(),
+        "vectors-ctr": ctr_vectors(),
+        "wrong-readings": wrong_readings(),
+    }
+    for n in (2, 4):
+        key, block, _ = traced[n]
+        out[f"trace-{n}-expansion"] = trace_expansion(n, key, False)
+        out[f"trace-{n}-it"] = trace_it(n, key, block)
+        out[f"trace-{n}-rounds"] = trace_rounds(n, key, block, False)
+        out[f"trace-{n}-ft"] = trace_ft(n, key, block)
+    return {name: "".join(line + "\n" for line in lines) for name, lines in out.items()}
+
+
+def main(words):
+    if words not in ([], ["--check"]):
+        raise SystemExit(__doc__)
+    made = values()
+    with open(PAPER) as file:
+        text = file.read()
+    there = [match[1] for match in FENCE.finditer(text)]
+    if sorted(there) != sorted(made):
+        raise SystemExit(f"make_paper_values.py: the paper has other blocks: {sorted(set(there) ^ set(made))}, {len(there)} for {len(made)}")
+    new = FENCE.sub(lambda match: f"```{match[1]}\n{made[match[1]]}```", text)
+    if words and new != text:
+        raise SystemExit("make_paper_values.py: the paper's values are not what the archivists' program gives")
+    if not words and new != text:
+        with open(PAPER, "w") as file:
+            file.write(new)
+    print(f"make_paper_values: {len(made)} blocks, {sum(v.count(chr(10)) for v in made.values())} lines")
+
+
+if __name__ == "__main__":
+    main(sys.argv[1:])

@@ -1,0 +1,552 @@
+#!/usr/bin/env python3
+"""Reads every value out of docs/OPENING-A-PAGE.md and holds it to both programs: the archivists' (all values, step by step) and ours (what the
+library's functions give), through target/dist/liblabyrinth.a, which `make lib` makes. Then alters a digit in each line of each block in
+turn: each must be noticed."""
+import ctypes
+import functools
+import os
+import re
+import subprocess
+import sys
+import tempfile
+
+sys.dont_write_bytecode = True
+HERE = os.path.dirname(os.path.abspath(__file__))
+ROOT = os.path.dirname(HERE)
+PAPER = os.path.join(ROOT, "docs", "OPENING-A-PAGE.md")
+ARCHIVE = os.path.join(ROOT, "target", "dist", "liblabyrinth.a")
+sys.path[:0] = [os.path.join(HERE, "archivists"), HERE]
+import labyrinth as lab
+import make_paper_values
+import modes
+
+FENCE = re.compile(r"^```([a-z0-9-]+)\n(.*?)^```$", re.M | re.S)
+BYTE_LINE = re.compile(r"^(\S+) +((?:[0-9A-F]{2}){1,4}(?: (?:[0-9A-F]{2}){1,4}){0,3}) +: ([0-9A-F]{4})$")
+WORD_CELL = re.compile(r"^(\S+) +(0x[0-9A-F]{16}(?: 0x[0-9A-F]{16})?)$")
+SIZES = [(n, l) for n in (1, 2, 4) for l in (2, 3, 4)]
+READ = {"blocks": 21, "byte strings": 96, "half-blocks": 396, "block vectors": 18, "CBC runs": 3, "CTR runs": 3, "traced blocks": 3}
+
+
+class Fault(Exception):
+    pass
+
+
+def same(what, got, wanted):
+    if got != wanted:
+        raise Fault(f"{what}: {got}, not {wanted}")
+
+
+# ---- ours
+
+def ours(place):
+    """The library as a shared object."""
+    if not os.path.exists(ARCHIVE):
+        sys.exit("paper.py: target/dist/liblabyrinth.a is not there: make lib")
+    shared = os.path.join(place, "liblabyrinth.so")
+    subprocess.run(["gcc", "-shared", "-o", shared, "-Wl,--whole-archive", ARCHIVE, "-Wl,--no-whole-archive"], check=True, timeout=60)
+    library = ctypes.CDLL(shared)
+    library.labyrinth_mix.restype = ctypes.c_uint64
+    for name in ("encipher", "decipher", "cbc_seal", "cbc_open", "ctr"):
+        getattr(library, f"labyrinth_{name}").restype = ctypes.c_uint8
+    return library
+
+
+LIBRARY = None
+
+
+@functools.lru_cache(maxsize=None)
+def our(name, n, l, key, *strings, q=None):
+    """What the library's function gives for a source, the last of the strings; its number must be 0."""
+    lent = []
+    for data in (key, *strings):
+        lent += [data, ctypes.c_size_t(len(data))]
+    if q is not None:
+        lent[4:4] = [ctypes.c_uint64(q)]
+    out = ctypes.create_string_buffer(len(strings[-1]) or 1)
+    number = getattr(LIBRARY, f"labyrinth_{name}")(ctypes.c_size_t(n), ctypes.c_size_t(l), *lent, out, ctypes.c_size_t(len(strings[-1])))
+    same(f"the number of {name}", number, 0)
+    return out.raw[: len(strings[-1])]
+
+
+@functools.lru_cache(maxsize=None)
+def theirs(n, key):
+    return lab.Labyrinth(n, key)
+
+
+@functools.lru_cache(maxsize=None)
+def their(name, n, key, *rest):
+    cipher = theirs(n, key)
+    if name in ("encrypt_block", "decrypt_block"):
+        return getattr(cipher, name)(*rest)
+    return getattr(modes, name)(cipher, *rest)
+
+
+# ---- reading
+
+def byte_line(line):
+    match = BYTE_LINE.match(line)
+    if not match:
+        raise Fault(f"no byte line: {line}")
+    data = bytes.fromhex(match[2])
+    same(f"the check sum of '{line}'", match[3], f"{sum(i * b for i, b in enumerate(data, 1)):04X}")
+    return match[1], data
+
+
+def strings(lines):
+    """Byte lines, lines of one name one after another joined; only the last line of a string may be short."""
+    out = []
+    for line in lines:
+        name, data = byte_line(line)
+        if out and out[-1][0] == name:
+            same(f"bytes before '{line}'", len(out[-1][1]) % 16, 0)
+            out[-1] = (name, out[-1][1] + data)
+        else:
+            out.append((name, data))
+    COUNTED["byte strings"] += len(out)
+    return out
+
+
+def half_blocks(lines, n):
+    """Word lines, as pairs of a name and n words."""
+    cells = []
+    for line in lines:
+        for cell in line.split(" | "):
+            match = WORD_CELL.match(cell)
+            if not match:
+                raise Fault(f"no words: {line}")
+            words = [int(w, 16) for w in match[2].split()]
+            if cells and cells[-1][0] == match[1] and len(cells[-1][1]) < n:
+                cells[-1][1].extend(words)
+            else:
+                cells.append((match[1], words))
+    for name, words in cells:
+        same(f"the words of {name}", len(words), n)
+    COUNTED["half-blocks"] += len(cells)
+    return cells
+
+
+def records(text):
+    return [record.splitlines() for record in text.rstrip("\n").split("\n\n")]
+
+
+def head(line, *names):
+    words = line.split()
+    same(f"the names in '{line}'", words[1::2], list(names))
+    return [words[0], *(int(w) for w in words[2::2])]
+
+
+def bytes_and_words(lines, n, front):
+    """Lines of which the first `front` are byte lines and the rest word lines."""
+    return strings(lines[:front]), half_blocks(lines[front:], n)
+
+
+# ---- tables and parts
+
+def table_1(text):
+    lines = text.splitlines()
+    same("the head of Table 1", lines[0].split(), [*(f"{c:02X}" for c in range(16)), "sum"])
+    same("the lines of Table 1", len(lines), 17)
+    entries = []
+    for row, line in enumerate(lines[1:]):
+        front, total = line.split(" : ")
+        name, *values = front.split()
+        same("the head of a line", name, f"{16 * row:02X}")
+        values = [int(v, 16) for v in values]
+        same(f"the check sum of line {name}", total, f"{sum(i * b for i, b in enumerate(values, 1)):04X}")
+        entries += values
+    same("Table 1", entries, lab.S)
+    same("Table 1's bytes", sorted(entries), list(range(256)))
+
+
+def constants(text):
+    lines = dict(line.split(maxsplit=1) for line in text.splitlines())
+    numbers = {name: [int(v, 16) for v in lines[name].split()] for name in lines if name not in ("IT", "FT", "rounds")}
+    same("the field", numbers.pop("field"), [lab.F_MBN])
+    same("the row", numbers.pop("row"), lab.G)
+    for t in range(4):
+        same(f"xc_{t}", numbers.pop(f"xc_{t}"), [lab.XC[t]])
+    (added,), (xored,) = numbers.pop("delta-add"), numbers.pop("delta-xor")
+    for w in (0, 1, 0x0123456789ABCDEF, 2**63, 2**64 - added, 2**64 - 1):
+        same(f"delta of {w:x}", [(w + added) % 2**64 ^ xored], lab.delta([w]))
+    same("other constants", numbers, {})
+    it, rounds, ft = lab.working_key_encipher(list(range(8)))
+    for name, wanted in (("IT", it), ("rounds", rounds), ("FT", ft)):
+        same(name, [int(v) for v in lines[name].split()], list(wanted))
+
+
+def byte_sources(text):
+    found = {1: [], 2: [], 4: []}
+    for line in text.splitlines():
+        n, place, *taken = map(int, line.split())
+        same("the place", place, len(found.get(n, [])))
+        found[n] += taken
+    for n, taken in found.items():
+        same(f"P({n})", taken, lab.half_to_bytes(lab.P(lab.bytes_to_half(list(range(8 * n))))))
+
+
+def mixed_eight(w):
+    for _ in range(8):
+        w = lab.cmbn_poly(w)
+    same("46 times each byte", lab.word_to_bytes(w), [lab.gf_mul(b, 0x46) for b in lab.word_to_bytes(0x0123456789ABCDEF)])
+    return w
+
+
+def small_values(text):
+    by = {
+        "S": lambda x: [lab.S[x]],
+        "S-inverse": lambda x: [lab.S_INV[x]],
+        "product": lambda a, b: [lab.gf_mul(a, b)],
+        "mix": lambda w: [lab.cmbn_poly(w)],
+        "mix-8": lambda w: [mixed_eight(w)],
+        "delta": lambda w: lab.delta([w]),
+        "IMix": lambda a, b: [h[0] for h in lab.IMix([a], [b])],
+        **{f"SL-{t}": lambda w, t=t: [lab.SL(t, w)] for t in range(4)},
+    }
+    lines = re.sub(r"\n +=", " =", text).splitlines()
+    same("the small values", len(lines), 24)
+    for line in lines:
+        front, back = line.split(" = ")
+        name, *given = front.split()
+        if name not in by:
+            raise Fault(f"no such part: {line}")
+        given, result = [int(v, 16) for v in given], [int(v, 16) for v in back.split()]
+        same(line, result, by[name](*given))
+        if name == "mix":
+            same(f"ours: {line}", [LIBRARY.labyrinth_mix(ctypes.c_uint64(given[0]))], result)
+
+
+def wrong_readings(text, made=[]):
+    made or made.extend(make_paper_values.wrong_readings())
+    same("the wrong readings", text.splitlines(), made)
+
+
+# ---- traces
+
+TRACED = {}
+
+
+def split(n, data):
+    return [lab.bytes_to_half(data[at : at + 8 * n]) for at in range(0, len(data), 8 * n)]
+
+
+def steps(k, x):
+    """F and its four steps."""
+    added = lab.vadd(x, k)
+    taken = lab.P(added)
+    substituted = [lab.bytes_to_word([lab.S[b] for b in lab.word_to_bytes(w)]) for w in taken]
+    return [("sum", added), ("permuted", taken), ("substituted", substituted), ("mixed", [lab.cmbn_poly(w) for w in substituted]), ("F", lab.F(k, x))]
+
+
+def expansion_of(n, l, whole):
+    def check(text):
+        first, *rest = records(text)
+        (name, key), = strings([line for line in first if " : " in line])
+        same("the key's name and length", (name, len(key)), ("key", 8 * n * l))
+        TRACED.setdefault(n, {})["key"] = key
+        uk = split(n, key)
+        k = lab.expand_key(uk)
+        total = functools.reduce(lab.vxor, uk)
+        register = lab.vrol(total, 29)
+        wanted = [*((f"k_{j}", k[j]) for j in range(l)), ("XOR", total), ("register", register)]
+        if not whole:
+            wanted += [(f"k_{j}", k[j]) for j in range(l, 8)]
+        same("the expansion", half_blocks([line for line in first if " : " not in line], n), wanted)
+        same("the steps of the expansion", len(rest), 8 - l if whole else 0)
+        for j, lines in enumerate(rest, l):
+            register = lab.delta(register)
+            same("the step's number", lines[0], f"j {j}")
+            wanted = [("register", register), *steps(register, k[j - 1]), (f"k_{j - l}", k[j - l]), (f"k_{j}", k[j])]
+            same(f"step {j}", half_blocks(lines[1:], n), wanted)
+            same(f"k_{j}", k[j], lab.vxor(wanted[-3][1], k[j - l]))
+    return check
+
+
+def turn(a, b):
+    d = lab.vxor(a, b)
+    return [("XOR", d), ("sigma", [lab.rol64(d[0], 28), *d[1:]])]
+
+
+def it_of(n):
+    def check(text):
+        lines = text.splitlines()
+        front = sum(" : " in line for line in lines)
+        ((name, block),), cells = bytes_and_words(lines, n, front)
+        same("the block's name and length", (name, len(block)), ("block", 16 * n))
+        TRACED[n]["block"] = block
+        right, left = split(n, block)
+        k = lab.expand_key(split(n, TRACED[n]["key"]))
+        wanted = [("L", left), ("R", right), ("key-L", k[7]), ("key-R", k[4])]
+        a, b = lab.vadd(left, k[7]), lab.vadd(right, k[4])
+        wanted += [("sum-L", a), ("sum-R", b)]
+        a, b = lab.sub_half(lab.S, a), lab.sub_half(lab.S, b)
+        wanted += [("subst-L", a), ("subst-R", b)]
+        a, b = lab.vrol(a, 2), lab.vror(b, 2)
+        c, d = lab.IT((k[7], k[4]), (left, right))
+        wanted += [("rotated-L", a), ("rotated-R", b), *turn(a, b), ("L_0", c), ("R_0", d)]
+        same("IT", cells, wanted)
+    return check
+
+
+def states(n):
+    """The halves after 0 to 16 rounds; and deciphering goes back over them."""
+    k = lab.expand_key(split(n, TRACED[n]["key"]))
+    wk, back = lab.working_key_encipher(k), lab.working_key_decipher(k)
+    right, left = split(n, TRACED[n]["block"])
+    out = [lab.IT(wk[0], (left, right))]
+    for subkey in wk[1]:
+        out.append((out[-1][1], lab.vxor(out[-1][0], lab.F(subkey, out[-1][1]))))
+    sealed_left, sealed_right = lab.FT(wk[2], out[16][::-1])
+    left, right = lab.IT(back[0], (sealed_left, sealed_right))
+    for m in range(17):
+        same(f"deciphering after {m} rounds", (left, right), (out[16 - m][1], out[16 - m][0]))
+        if m < 16:
+            left, right = right, lab.vxor(left, lab.F(back[1][m], right))
+    return wk, out
+
+
+def rounds_of(n, whole):
+    def check(text):
+        wk, state = states(n)
+        numbers = lab.working_key_encipher(list(range(8)))[1]
+        found = records(text)
+        same("the rounds", len(found), 16)
+        for i, lines in enumerate(found):
+            same("the round's head", lines[0], f"round {i} k_{numbers[i]}")
+            wanted = [(f"L_{i + 1}", state[i + 1][0]), (f"R_{i + 1}", state[i + 1][1])]
+            if whole or i == 0:
+                wanted = [(f"L_{i}", state[i][0]), (f"R_{i}", state[i][1]), ("subkey", wk[1][i]), *steps(wk[1][i], state[i][1]), *wanted]
+            same(f"round {i}", half_blocks(lines[1:], n), wanted)
+    return check
+
+
+def ft_of(n, l):
+    def check(text):
+        wk, state = states(n)
+        lines = text.splitlines()
+        front = sum(" : " not in line for line in lines)
+        cells, ((name, sealed),) = half_blocks(lines[:front], n), strings(lines[front:])
+        same("the name", name, "sealed")
+        left, right = state[16][1], state[16][0]
+        c, d = lab.IMix(left, right)
+        wanted = [("L", left), ("R", right), *turn(left, right), ("mixed-L", c), ("mixed-R", d)]
+        c, d = lab.vror(c, 2), lab.vrol(d, 2)
+        wanted += [("rotated-L", c), ("rotated-R", d)]
+        c, d = lab.sub_half(lab.S_INV, c), lab.sub_half(lab.S_INV, d)
+        wanted += [("subst-L", c), ("subst-R", d), ("key-L", wk[2][0]), ("key-R", wk[2][1])]
+        c, d = lab.FT(wk[2], (left, right))
+        same("FT", cells, [*wanted, ("sealed-L", c), ("sealed-R", d)])
+        block_pair(n, l, TRACED[n]["key"], TRACED[n]["block"], sealed)
+        COUNTED["traced blocks"] += 1
+    return check
+
+
+# ---- vectors
+
+def block_pair(n, l, key, plain, sealed):
+    same("the lengths", (len(key), len(plain), len(sealed)), (8 * n * l, 16 * n, 16 * n))
+    same("theirs, sealed", sealed.hex(), their("encrypt_block", n, key, plain).hex())
+    same("theirs, opened", plain.hex(), their("decrypt_block", n, key, sealed).hex())
+    same("ours, sealed", sealed.hex(), our("encipher", n, l, key, plain).hex())
+    same("ours, opened", plain.hex(), our("decipher", n, l, key, sealed).hex())
+
+
+def parts(lines, *names):
+    found = strings(lines)
+    same("the names", [name for name, _ in found], list(names))
+    return [data for _, data in found]
+
+
+def blocks_of(counting):
+    def check(text):
+        sizes = []
+        for first, *lines in records(text):
+            kind, n, l = head(first, "n", "l")
+            same("the kind", kind, "block")
+            key, plain, sealed = parts(lines, "key", "plain", "sealed")
+            if counting:
+                same("counting", (key, plain), (bytes(range(8 * n * l)), bytes(range(16 * n))))
+            block_pair(n, l, key, plain, sealed)
+            sizes.append((n, l))
+        same("the sizes", sizes, SIZES)
+        COUNTED["block vectors"] += len(sizes)
+    return check
+
+
+def cbc(text):
+    sizes = []
+    for first, *lines in records(text):
+        kind, n, l = head(first, "n", "l")
+        same("the kind", kind, "cbc")
+        key, start, plain, sealed = parts(lines, "key", "start", "plain", "sealed")
+        same("the lengths", (len(key), len(start), len(plain) % (16 * n), len(sealed)), (8 * n * l, 16 * n, 0, len(plain)))
+        same("theirs, sealed", sealed.hex(), their("cbc_encrypt", n, key, start, plain).hex())
+        same("theirs, opened", plain.hex(), their("cbc_decrypt", n, key, start, sealed).hex())
+        same("ours, sealed", sealed.hex(), our("cbc_seal", n, l, key, start, plain).hex())
+        same("ours, opened", plain.hex(), our("cbc_open", n, l, key, start, sealed).hex())
+        same("more than one block", len(plain) > 16 * n, True)
+        sizes.append(n)
+    same("the sizes", sizes, [1, 2, 4])
+    COUNTED["CBC runs"] += len(sizes)
+
+
+def ctr(text):
+    sizes = []
+    for first, *lines in records(text):
+        kind, n, l, q = head(first, "n", "l", "q")
+        same("the kind", kind, "ctr")
+        found = strings(lines)
+        (_, key), (_, start), (_, plain), *counters, (_, sealed) = found
+        count = -(-len(plain) // (16 * n))
+        same("the names", [name for name, _ in found], ["key", "start", "plain", *(f"count-{i}" for i in range(count)), "sealed"])
+        same("the lengths", (len(key), len(start), len(sealed)), (8 * n * l, 16 * n, len(plain)))
+        if not 0 <= q < 2**64:
+            raise Fault(f"q is {q}")
+        stream = b"".join(their("encrypt_block", n, key, counter) for _, counter in counters)
+        same("the counters' key stream", bytes(a ^ b for a, b in zip(plain, stream)).hex(), sealed.hex())
+        same("theirs, sealed", sealed.hex(), their("ctr_crypt", n, key, start, q, plain).hex())
+        same("theirs, opened", plain.hex(), their("ctr_crypt", n, key, start, q, sealed).hex())
+        same("ours, sealed", sealed.hex(), our("ctr", n, l, key, start, plain, q=q).hex())
+        same("ours, opened", plain.hex(), our("ctr", n, l, key, start, sealed, q=q).hex())
+        same("a short last block", len(plain) % (16 * n) > 0 and len(plain) > 16 * n, True)
+        sizes.append(n)
+    same("the sizes", sizes, [1, 2, 4])
+    COUNTED["CTR runs"] += len(sizes)
+
+
+# in the order in which they are checked: a trace's later blocks know the key and the block of its first ones
+CHECKS = {
+    "table-1": table_1,
+    "constants": constants,
+    "byte-sources": byte_sources,
+    "small-values": small_values,
+    **{
+        name: check
+        for n, l in ((1, 2), (2, 3), (4, 4))
+        for name, check in (
+            (f"trace-{n}-expansion", expansion_of(n, l, n == 1)),
+            (f"trace-{n}-it", it_of(n)),
+            (f"trace-{n}-rounds", rounds_of(n, n == 1)),
+            (f"trace-{n}-ft", ft_of(n, l)),
+        )
+    },
+    "vectors-counting": blocks_of(True),
+    "vectors-mixed": blocks_of(False),
+    "vectors-cbc": cbc,
+    "vectors-ctr": ctr,
+    "wrong-readings": wrong_readings,
+}
+
+
+# ---- what the text says outside the blocks
+
+def sentences():
+    """Sentences of the paper that carry values, made from the archivists' values."""
+    it, rounds, ft = lab.working_key_encipher(list(range(8)))
+    for name, (a, b), keys, (c, d) in (
+        ("enciphering, E", it, rounds, ft),
+        ("deciphering, U", *lab.working_key_decipher(list(range(8)))),
+    ):
+        yield f"| {name} | high k_{a}, low k_{b} | {' '.join(f'k_{j}' for j in keys)} | high k_{c}, low k_{d} |"
+    yield "With g_0 to g_7 = " + " ".join(f"{g:02X}" for g in lab.G) + ", byte i"
+    yield "g(x) = " + " + ".join(f"{lab.G[i]:02X}" + ("", " x", f" x^{i}")[min(i, 2)] for i in range(7, -1, -1)) + ","
+    powers = [k for k in range(8, -1, -1) if lab.F_MBN >> k & 1]
+    yield "the polynomial " + " + ".join({0: "1", 1: "x"}.get(k, f"x^{k}") for k in powers) + f", written 0x{lab.F_MBN:X}"
+    yield "all bytes " + ", ".join(f"{lab.XC[t] & 255:02X} for t = {t}" for t in range(4))
+    yield f"add 0x{make_paper_values.ADDED:016X} modulo 2^64, then XOR 0x{make_paper_values.XORED:016X}"
+    yield f"S(53) stands in line 50, column 03, and is {lab.S[0x53]:02X}"
+    yield "each byte multiplied by 46"
+    yield f"the bytes `{' '.join(f'{i:02X}' for i in range(8))}` are the word 0x{lab.bytes_to_word(list(range(8))):016X}"
+    yield f"the line `01 02 03` has the check sum 1 + 4 + 9 = 14, written {sum(i * i for i in (1, 2, 3)):04X}"
+    readings = len(list(make_paper_values.wrong_readings()))
+    yield f"\n{readings}. FT adds its key.\n\n"
+    yield f"It never passes 0x{255 * sum(range(1, 17)):04X}."
+    by = {}
+    for n, l in SIZES:
+        by.setdefault(8 * n * l, []).append(f"({n}, {l})")
+    alone = [(length, sizes[0]) for length, sizes in sorted(by.items()) if len(sizes) == 1]
+    listed = lambda words: ", ".join(words[:-1]) + " and " + words[-1]
+    yield f"{listed([str(length) for length, _ in alone])} bytes are (n, l) = {listed([size for _, size in alone])};"
+    yield "; ".join(f"{length} bytes are {' or '.join(sizes)}" for length, sizes in sorted(by.items()) if len(sizes) == 2) + "."
+
+
+# ---- print
+
+def print_fault(blocks):
+    """What is wrong with the form for print: every line of every block must be in it, in order."""
+    done = subprocess.run([os.path.join(ROOT, "tools", "paper_to_ms"), PAPER], capture_output=True, text=True, timeout=60)
+    if done.returncode:
+        return done.stderr
+    printed = iter(done.stdout.replace("\\-", "-").splitlines())
+    for line in (line for block in blocks.values() for line in block.splitlines() if line):
+        if "\\&" + line not in printed:
+            return f"not in print: {line}"
+    return None
+
+
+# ---- altered digits
+
+def altered(text):
+    """Each line in turn with one digit exchanged for another; which digit goes round with the line's number."""
+    lines = text.splitlines()
+    for at, line in enumerate(lines):
+        digits = [i for match in re.finditer(r"\b(?:0x)?([0-9A-F]+)\b", line) for i in range(*match.span(1))]
+        if digits:
+            i = digits[7 * at % len(digits)]
+            other = "0" if line[i] == "9" else "A" if line[i] == "F" else chr(ord(line[i]) + 1)
+            yield line, "\n".join([*lines[:at], line[:i] + other + line[i + 1 :], *lines[at + 1 :]]) + "\n"
+
+
+COUNTED = dict.fromkeys(READ, 0)
+
+
+def main():
+    global LIBRARY
+    failures = []
+    with open(PAPER) as file:
+        text = file.read()
+    blocks = {}
+    for match in FENCE.finditer(text):
+        if match[1] in blocks:
+            failures.append(f"{match[1]} is there twice")
+        blocks[match[1]] = match[2]
+    if sorted(blocks) != sorted(CHECKS):
+        sys.exit(f"paper: FAILED: other blocks: {sorted(set(blocks) ^ set(CHECKS))}")
+    with tempfile.TemporaryDirectory() as place:
+        LIBRARY = ours(place)
+    for name, check in CHECKS.items():
+        COUNTED["blocks"] += 1
+        try:
+            check(blocks[name])
+        except (Fault, ValueError, KeyError, IndexError) as fault:
+            failures.append(f"{name}: {fault!r}"[:400])
+    said = list(sentences())
+    failures += [f"not in the text: {sentence}" for sentence in said if sentence not in text]
+    wide = [line for block in blocks.values() for line in block.splitlines() if len(line) > 72]
+    failures += [f"too wide: {line}" for line in wide]
+    failures += [fault for fault in [print_fault(blocks)] if fault]
+    if blocks != make_paper_values.values():
+        failures.append("the blocks are not what tests/make_paper_values.py makes")
+    if not failures and COUNTED != READ:
+        failures.append(f"read: {COUNTED}, not {READ}")
+    counts = ", ".join(f"{count} {what}" for what, count in COUNTED.items())
+    # altered digits: only where all else is right
+    tried = 0
+    if not failures:
+        for name, check in CHECKS.items():
+            keep = {n: dict(v) for n, v in TRACED.items()}
+            for line, changed in altered(blocks[name]):
+                tried += 1
+                try:
+                    check(changed)
+                    failures.append(f"{name}: an altered digit passed: {line}")
+                except (Fault, ValueError, KeyError, IndexError):
+                    pass
+                TRACED.clear()
+                TRACED.update({n: dict(v) for n, v in keep.items()})
+    for failure in failures:
+        print(f"paper: FAILED: {failure}")
+    print(f"paper: {counts}, {len(said)} sentences; {tried} altered digits tried; {len(failures)} failures")
+    sys.exit(1 if failures or not tried else 0)
+
+
+main()
