@@ -1,9 +1,10 @@
-# make run    the main job: document 01's example tape, made from text, worked, and shown with its answers
-# make test   the gate
-# make lib    the static library and its header, to target/dist
-# make bench  times the proved code against C
-# make paper  the paper for the successor for print, to target/OPENING-A-PAGE.pdf
-.PHONY: run test lib bench paper
+# make run      the main job: document 01's example tape, made from text, worked, and shown with its answers
+# make test     the gate
+# make lib      the static library and its header, to target/dist
+# make example  builds the library and runs examples/page.c over it
+# make bench    times the proved code against C
+# make paper    the paper for the successor for print, to target/OPENING-A-PAGE.pdf
+.PHONY: run test lib example bench paper
 
 run:
 	rt check tape_program
@@ -21,6 +22,10 @@ lib:
 	mkdir -p target/dist
 	cp target/staticlib/liblabyrinth_c.a target/dist/liblabyrinth.a
 	cp include/labyrinth.h target/dist/labyrinth.h
+
+example: lib
+	gcc -std=c99 -Wall -Wextra -Wpedantic -I target/dist examples/page.c target/dist/liblabyrinth.a -o target/page
+	target/page
 
 bench:
 	rt staticlib bench_blocks

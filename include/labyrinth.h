@@ -9,13 +9,31 @@
  *   4  the source isn't 16n bytes (a block), or no multiple of that (CBC)
  *   5  the destination isn't 16n bytes (a block), or isn't as long as the source (CBC, CTR)
  *
- * What is proved of these functions holds if the caller keeps to this: each pointer is valid for its length, and NULL only with length 0;
- * dst overlaps neither src nor key nor start, which may overlap each other. */
+ * 0 does not say that a page is genuine: by a wrong key, or altered, it opens to something too.
+ *
+ * What the caller owes; what is proved of these functions holds only then:
+ *   - Each pointer is valid for its length: key, start and src for reading, dst for writing. Any alignment will do. NULL only with length
+ *     0: such a pointer is never followed.
+ *   - dst overlaps neither key nor start nor src, which may overlap each other: nothing is sealed or opened in place.
+ *   - While a call runs nobody else writes to its buffers or reads dst, which may hold other bytes then than in the end.
+ *   - The stack has LABYRINTH_STACK bytes left.
+ *
+ * The calls are reentrant, also in threads: there is no heap and no state. The archive has no writable data and refers to no symbols but
+ * memcpy and memset. Keys and what is made from them stay on the stack after a call; they are not cleared. Look-ups in tables depend on
+ * keys and data, so the time of a call may tell of them.
+ *
+ * Tested on x86_64 Linux (Debian 12) only, for which the archive is made. */
 #ifndef LABYRINTH_H
 #define LABYRINTH_H
 
 #include <stddef.h>
 #include <stdint.h>
+
+/* The largest stack use of a call in bytes, the return address counted, what the caller pushes not: labyrinth_ctr's.
+ * Measured on a painted stack on x86_64 Linux (Debian 12, gcc 12.2, glibc 2.36), the archive as rattle-kit-5b makes it. Where memcpy and
+ * memset are only bound when first called, the first call took 42648 there, and may take more elsewhere: link with -z now, or call once
+ * where the stack is large. */
+#define LABYRINTH_STACK 39512
 
 #ifdef __cplusplus
 extern "C" {

@@ -1,0 +1,114 @@
+#!/usr/bin/env bash
+# The C interface: the header in three languages, the archive's symbols and sections, the example against the archivists' program, and
+# tests/c_interface.c; each shown to notice what it is to notice. Builds target/dist if it isn't there.
+#
+#     tests/c_interface.sh [--long] [--seed N]      words for tests/c_interface.c
+set -u
+export LC_ALL=C
+cd "$(dirname "$0")/.." || exit 1
+for tool in gcc g++ nm readelf ar python3; do
+    command -v "$tool" >/dev/null || { echo "c_interface: $tool is not here"; exit 1; }
+done
+work=$(mktemp -d) || exit 1
+trap 'rm -rf "$work"' EXIT
+status=0
+wrong() { echo "c_interface: $*"; status=1; }
+archive=target/dist/liblabyrinth.a
+warnings="-Wall -Wextra -Wpedantic -Werror"
+[ -f "$archive" ] && [ -f target/dist/labyrinth.h ] || make lib >"$work/lib" 2>&1 || { cat "$work/lib"; echo "c_interface: make lib failed"; exit 1; }
+cmp include/labyrinth.h target/dist/labyrinth.h || { echo "c_interface: target/dist is of another header: make lib"; exit 1; }
+
+# ---- the header alone, and twice
+printf '#include "labyrinth.h"\n#include "labyrinth.h"\n' >"$work/twice.c"
+cp "$work/twice.c" "$work/twice.cc"
+for std in c99 c11 c17; do gcc -std=$std $warnings -I target/dist -fsyntax-only "$work/twice.c" || wrong "the header as $std"; done
+for std in c++98 c++11 c++17; do g++ -std=$std $warnings -I target/dist -fsyntax-only "$work/twice.cc" || wrong "the header as $std"; done
+
+# ---- the archive: the functions on offer, no symbol but memcpy and memset, nothing that can be written
+contents() {
+    echo "offers $(nm -g --defined-only "$1" | awk 'NF == 3 { print $3 }' | sort -u | xargs)"
+    echo "needs $(nm -u "$1" | awk 'NF == 2 { print $2 }' | sort -u | xargs)"
+    echo "writable $(readelf -SW "$1" | sed 's/^ *\[ *[0-9]*\] *//' | awk '$7 ~ /W/ { print $1 }' | sort -u | xargs)"
+}
+cat >"$work/contents" <<'END'
+offers labyrinth_cbc_open labyrinth_cbc_seal labyrinth_ctr labyrinth_decipher labyrinth_encipher labyrinth_mix
+needs memcpy memset
+writable 
+END
+contents "$archive" >"$work/found"
+diff "$work/contents" "$work/found" || wrong "the archive holds something else than the header says"
+# one more function, a call of malloc, a variable: each is noticed
+alter() {
+    cp "$archive" "$work/altered.a"
+    echo "$2" | gcc -x c -c -o "$work/more.o" - && ar r "$work/altered.a" "$work/more.o" || wrong "no altered archive"
+    contents "$work/altered.a" | diff "$work/contents" - >"$work/difference"
+    grep -q "^> $1" "$work/difference" || wrong "an archive that $1 more passed"
+}
+alter offers 'int more(void) { return 1; }'
+alter needs '#include <stdlib.h>
+static void *more(void) { return malloc(1); }
+static void *(*const at)(void) __attribute__((used)) = more;'
+alter writable 'static int more __attribute__((used)) = 1;'
+gcc -shared -Wl,-z,defs -Wl,-z,text -Wl,--whole-archive "$archive" -Wl,--no-whole-archive -o "$work/liblabyrinth.so" || wrong "no shared library"
+
+# ---- the example, as C and as C++: what it prints is what the archivists' program says
+gcc -std=c99 $warnings -I target/dist examples/page.c "$archive" -o "$work/page" || wrong "the example as C99"
+g++ -std=c++11 $warnings -x c++ -I target/dist examples/page.c -x none "$archive" -o "$work/page++" || wrong "the example as C++"
+"$work/page" >"$work/printed" || wrong "the example failed"
+"$work/page++" | cmp - "$work/printed" || wrong "the example prints something else as C++"
+agrees() {
+    python3 -B - "$1" <<'END'
+import sys
+
+sys.path.insert(0, "tests/archivists")
+import labyrinth
+import modes
+
+with open(sys.argv[1]) as file:
+    said = dict(line.rstrip("\n").split(": ", 1) for line in file)
+cipher = labyrinth.Labyrinth(2, bytes.fromhex(said["key"]))
+cbc = modes.cbc_encrypt(cipher, bytes.fromhex(said["cbc start"]), said["cbc page"].encode())
+ctr = modes.ctr_crypt(cipher, bytes.fromhex(said["ctr start"]), int(said["ctr q"]), said["ctr page"].encode())
+sys.exit((cbc.hex(), ctr.hex()) != (said["cbc sealed"], said["ctr sealed"]))
+END
+}
+agrees "$work/printed" || wrong "the example's sealed pages are not the archivists'"
+for line in 'cbc sealed' 'ctr sealed'; do
+    awk -v line="$line" -F ': ' '$1 == line { $0 = $1 ": " (substr($2, 1, 1) == "0" ? "1" : "0") substr($2, 2) } { print }' "$work/printed" >"$work/altered"
+    ! agrees "$work/altered" 2>/dev/null || wrong "an altered page passed as the archivists' ($line)"
+done
+# the example over functions of which one spoils a byte or refuses: it fails then, and else prints the same
+cat >"$work/spoil.c" <<'END'
+#include <stdlib.h>
+#include <string.h>
+#include "labyrinth.h"
+#define WRAP(name, parameters, arguments) \
+    uint8_t __real_##name parameters; \
+    uint8_t __wrap_##name parameters; \
+    uint8_t __wrap_##name parameters \
+    { \
+        uint8_t number = __real_##name arguments; \
+        if (strcmp(getenv("SPOILS"), #name) == 0) dst[0] = 0; \
+        return strcmp(getenv("REFUSES"), #name) == 0 ? 5 : number; \
+    }
+#define FRONT size_t n, size_t l, const uint8_t *key, size_t key_len, const uint8_t *start, size_t start_len
+#define BACK const uint8_t *src, size_t src_len, uint8_t *dst, size_t dst_len
+WRAP(labyrinth_cbc_seal, (FRONT, BACK), (n, l, key, key_len, start, start_len, src, src_len, dst, dst_len))
+WRAP(labyrinth_cbc_open, (FRONT, BACK), (n, l, key, key_len, start, start_len, src, src_len, dst, dst_len))
+WRAP(labyrinth_ctr, (FRONT, uint64_t q, BACK), (n, l, key, key_len, start, start_len, q, src, src_len, dst, dst_len))
+END
+gcc -std=c99 $warnings -I target/dist -Wl,--wrap=labyrinth_cbc_seal,--wrap=labyrinth_cbc_open,--wrap=labyrinth_ctr \
+    examples/page.c "$work/spoil.c" "$archive" -o "$work/spoilt" || wrong "the example over spoilt functions"
+SPOILS='' REFUSES='' "$work/spoilt" | cmp - "$work/printed" || wrong "the example prints something else over functions that spoil nothing"
+for name in labyrinth_cbc_seal labyrinth_cbc_open labyrinth_ctr; do
+    SPOILS=$name REFUSES='' "$work/spoilt" >/dev/null 2>&1
+    [ $? -eq 1 ] || wrong "the example passed over a spoilt $name"
+    SPOILS='' REFUSES=$name "$work/spoilt" >/dev/null 2>&1
+    [ $? -eq 1 ] || wrong "the example passed over a refusing $name"
+done
+
+# ---- numbers, NULL, stack, lent memory
+gcc -std=gnu11 -O2 $warnings -Wl,-z,now -I target/dist tests/c_interface.c "$archive" -o "$work/c_interface" || { echo "c_interface: not compiled"; exit 1; }
+"$work/c_interface" "$@" || wrong "tests/c_interface.c failed"
+[ $status -eq 0 ] || echo "c_interface: FAILED"
+exit $status
