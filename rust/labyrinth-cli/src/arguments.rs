@@ -1,0 +1,146 @@
+//! Reads the command line.
+use crate::pieces::Mode;
+use std::ffi::OsString;
+
+pub const USAGE: &str = "labyrinth seal|open --mode cbc|ctr -n N -l L --key-file F --start HEX [--offset Q] IN OUT";
+
+pub enum Request {
+    Help,
+    Work(Arguments),
+}
+
+pub struct Arguments {
+    pub seal: bool,
+    pub mode: Mode,
+    pub n: usize,
+    pub l: usize,
+    pub key_file: OsString,
+    pub start: Vec<u8>,
+    pub offset: u64,
+    pub input: OsString,
+    pub output: OsString,
+}
+
+const OPTIONS: [&str; 6] = ["--mode", "-n", "-l", "--key-file", "--start", "--offset"];
+
+/// Options may stand anywhere; each at most once; -- ends them.
+pub fn read(words: impl Iterator<Item = OsString>) -> Result<Request, String> {
+    let mut values: [Option<OsString>; 6] = Default::default();
+    let mut operands = Vec::new();
+    let (mut words, mut ended) = (words, false);
+    while let Some(word) = words.next() {
+        let text = word.to_string_lossy().into_owned();
+        if ended || text == "-" || !text.starts_with('-') {
+            operands.push(word);
+        } else if text == "--" {
+            ended = true;
+        } else if text == "--help" || text == "-h" {
+            return Ok(Request::Help);
+        } else if let Some(which) = OPTIONS.iter().position(|option| *option == text) {
+            let value = words.next().ok_or(format!("{text} lacks its value"))?;
+            if values[which].replace(value).is_some() {
+                return Err(format!("{text} stands twice"));
+            }
+        } else {
+            return Err(format!("unknown option {text}"));
+        }
+    }
+    if operands.len() != 3 {
+        return Err(format!("{} words besides the options, where 'seal' or 'open', IN and OUT are wanted", operands.len()));
+    }
+    let [mode, n, l, key_file, start, offset] = values;
+    let text = |value: Option<OsString>, option: &str| -> Result<String, String> {
+        value.ok_or(format!("{option} is missing"))?.into_string().map_err(|_| format!("{option}: not a text"))
+    };
+    let seal = match operands[0].to_str() {
+        Some("seal") => true,
+        Some("open") => false,
+        _ => return Err(format!("'seal' or 'open' comes first, not '{}'", operands[0].to_string_lossy())),
+    };
+    let mode = match text(mode, "--mode")?.as_str() {
+        "cbc" => Mode::Cbc,
+        "ctr" => Mode::Ctr,
+        other => return Err(format!("--mode is cbc or ctr, not '{other}'")),
+    };
+    let n = size(&text(n, "-n")?).ok_or("-n takes a number")?;
+    let l = size(&text(l, "-l")?).ok_or("-l takes a number")?;
+    let key_file = key_file.ok_or("--key-file is missing")?;
+    let start = hex(text(start, "--start")?.as_bytes()).map_err(|what| format!("--start: {what}"))?;
+    let offset = match (mode, offset) {
+        (_, None) => 0,
+        (Mode::Ctr, offset) => {
+            number(&text(offset, "--offset")?).ok_or("--offset takes a number below 2^64, decimal or 0x and hexadecimal digits")?
+        }
+        (Mode::Cbc, _) => return Err("--offset is for --mode ctr only".to_string()),
+    };
+    let output = operands.pop().unwrap_or_default();
+    let input = operands.pop().unwrap_or_default();
+    if input.is_empty() || output.is_empty() || key_file.is_empty() {
+        return Err("a file's name is empty".to_string());
+    }
+    if key_file == *"-" && input == *"-" {
+        return Err("the key and IN can't both come from standard input".to_string());
+    }
+    Ok(Request::Work(Arguments { seal, mode, n, l, key_file, start, offset, input, output }))
+}
+
+/// Decimal digits; a number too large for the type is as wrong as the largest, and the library refuses that.
+fn size(text: &str) -> Option<usize> {
+    if text.is_empty() || !text.bytes().all(|b| b.is_ascii_digit()) {
+        return None;
+    }
+    Some(text.parse().unwrap_or(usize::MAX))
+}
+
+fn number(text: &str) -> Option<u64> {
+    let (digits, radix) = match text.strip_prefix("0x") {
+        Some(digits) => (digits, 16),
+        None => (text, 10),
+    };
+    // from_str_radix takes a sign too
+    if !digits.chars().all(|c| c.is_digit(radix)) {
+        return None;
+    }
+    u64::from_str_radix(digits, radix).ok()
+}
+
+/// Bytes from hexadecimal digits, two a byte, first byte first; white space is ignored. What is wrong is told by its place, since the
+/// text may be a key.
+pub fn hex(text: &[u8]) -> Result<Vec<u8>, String> {
+    let mut digits = Vec::new();
+    for (place, byte) in text.iter().enumerate() {
+        match char::from(*byte).to_digit(16) {
+            Some(digit) => digits.push(digit as u8),
+            None if byte.is_ascii_whitespace() => (),
+            None => return Err(format!("character {} is no hexadecimal digit", place + 1)),
+        }
+    }
+    if digits.len() % 2 != 0 {
+        return Err(format!("an odd number of hexadecimal digits ({}): two make a byte", digits.len()));
+    }
+    Ok(digits.chunks(2).map(|pair| pair[0] << 4 | pair[1]).collect())
+}
+
+#[cfg(test)]
+mod tests {
+    use super::*;
+
+    #[test]
+    fn digits_to_bytes() {
+        assert_eq!(hex(b"00fF 1\n2\t\r\n"), Ok(vec![0x00, 0xFF, 0x12]));
+        assert_eq!(hex(b" \n"), Ok(vec![]));
+        for wrong in ["0", "000", "0g", "0x00", "-1", "+1", "00\u{a0}00", "00,00", "00\u{0}"] {
+            assert!(hex(wrong.as_bytes()).is_err(), "{wrong}");
+        }
+    }
+
+    #[test]
+    fn numbers() {
+        assert_eq!((size("4"), size("0"), size("99999999999999999999999")), (Some(4), Some(0), Some(usize::MAX)));
+        assert_eq!((number("17"), number("0x1F"), number("18446744073709551615")), (Some(17), Some(31), Some(u64::MAX)));
+        for wrong in ["", "-1", "+1", "1 ", "x", "0x"] {
+            assert_eq!((size(wrong), number(wrong)), (None, None), "{wrong}");
+        }
+        assert_eq!((number("18446744073709551616"), number("ff"), number("0x+f"), number("0x10000000000000000")), (None, None, None, None));
+    }
+}

@@ -1,0 +1,362 @@
+//! The block cipher Labyrinth, and CBC and CTR of NIST SP 800-38A over it: a safe wrapper of the library in Rattle that is proved against
+//! the article. Every function expands a key, does one operation and keeps nothing.
+//!
+//! What is proved is the library behind the C interface; this wrapper is not. It hands over what it is given, unchecked, and returns what
+//! the library answered. Safe Rust keeps to what the proofs ask of a caller: slices are valid, and a destination overlaps nothing.
+//!
+//! **Never use one start block with overlapping counters for two pages under one key** (CTR): the XOR of the two sealed pages is then the
+//! XOR of the pages. **CBC and CTR show no alteration**: a changed sealed page, or a wrong key, opens to something, and nothing tells.
+//! CBC takes whole blocks only; nothing here pads. Time depends on the data and the key, and keys are not cleared from memory.
+//!
+//! ```
+//! use labyrinth::{Error, Key, Start};
+//!
+//! let key = Key { n: 1, l: 2, bytes: &[7; 16] };
+//! let start = Start(&[9; 16]);
+//! let (mut sealed, mut opened) = ([0; 11], [0; 11]);
+//! key.ctr(start, 0, b"eleven long", &mut sealed)?;
+//! key.ctr(start, 0, &sealed, &mut opened)?;
+//! assert_eq!(&opened, b"eleven long");
+//! assert_eq!(key.cbc_seal(start, b"eleven long", &mut sealed), Err(Error::SourceLength));
+//! # Ok::<(), Error>(())
+//! ```
+#![warn(missing_docs)]
+
+use std::fmt;
+
+// As include/labyrinth.h declares them; tests/rust.sh compares the two.
+extern "C" {
+    fn labyrinth_encipher(
+        n: usize,
+        l: usize,
+        key: *const u8,
+        key_len: usize,
+        src: *const u8,
+        src_len: usize,
+        dst: *mut u8,
+        dst_len: usize,
+    ) -> u8;
+    fn labyrinth_decipher(
+        n: usize,
+        l: usize,
+        key: *const u8,
+        key_len: usize,
+        src: *const u8,
+        src_len: usize,
+        dst: *mut u8,
+        dst_len: usize,
+    ) -> u8;
+    fn labyrinth_cbc_seal(
+        n: usize,
+        l: usize,
+        key: *const u8,
+        key_len: usize,
+        start: *const u8,
+        start_len: usize,
+        src: *const u8,
+        src_len: usize,
+        dst: *mut u8,
+        dst_len: usize,
+    ) -> u8;
+    fn labyrinth_cbc_open(
+        n: usize,
+        l: usize,
+        key: *const u8,
+        key_len: usize,
+        start: *const u8,
+        start_len: usize,
+        src: *const u8,
+        src_len: usize,
+        dst: *mut u8,
+        dst_len: usize,
+    ) -> u8;
+    fn labyrinth_ctr(
+        n: usize,
+        l: usize,
+        key: *const u8,
+        key_len: usize,
+        start: *const u8,
+        start_len: usize,
+        q: u64,
+        src: *const u8,
+        src_len: usize,
+        dst: *mut u8,
+        dst_len: usize,
+    ) -> u8;
+    fn labyrinth_mix(word: u64) -> u64;
+}
+
+/// Why the library refused: document 01's number. The destination then holds what it held before.
+#[derive(Clone, Copy, Debug, PartialEq, Eq, Hash)]
+#[non_exhaustive]
+pub enum Error {
+    /// 1: n isn't 1, 2 or 4.
+    BlockSize,
+    /// 2: l isn't 2, 3 or 4.
+    KeySize,
+    /// 3: the key isn't 8nl bytes.
+    KeyLength,
+    /// 4: the source isn't 16n bytes (a block), or no multiple of that (CBC).
+    SourceLength,
+    /// 5: the destination isn't 16n bytes (a block), or isn't as long as the source (CBC, CTR).
+    DestinationLength,
+    /// 6: the start block isn't 16n bytes.
+    StartLength,
+    /// Another number, which this crate doesn't know.
+    Unknown(u8),
+}
+
+impl Error {
+    /// Document 01's number.
+    pub fn number(self) -> u8 {
+        match self {
+            Error::BlockSize => 1,
+            Error::KeySize => 2,
+            Error::KeyLength => 3,
+            Error::SourceLength => 4,
+            Error::DestinationLength => 5,
+            Error::StartLength => 6,
+            Error::Unknown(number) => number,
+        }
+    }
+}
+
+impl fmt::Display for Error {
+    fn fmt(&self, f: &mut fmt::Formatter<'_>) -> fmt::Result {
+        let words = match self {
+            Error::BlockSize => "n isn't 1, 2 or 4",
+            Error::KeySize => "l isn't 2, 3 or 4",
+            Error::KeyLength => "the key isn't 8nl bytes",
+            Error::SourceLength => "the source isn't 16n bytes, or for CBC no multiple of 16n bytes",
+            Error::DestinationLength => "the destination isn't 16n bytes, or for CBC and CTR isn't as long as the source",
+            Error::StartLength => "the start block isn't 16n bytes",
+            Error::Unknown(_) => "a number that the crate labyrinth doesn't know",
+        };
+        write!(f, "refused with {}: {words}", self.number())
+    }
+}
+
+impl std::error::Error for Error {}
+
+fn answer(number: u8) -> Result<(), Error> {
+    match number {
+        0 => Ok(()),
+        1 => Err(Error::BlockSize),
+        2 => Err(Error::KeySize),
+        3 => Err(Error::KeyLength),
+        4 => Err(Error::SourceLength),
+        5 => Err(Error::DestinationLength),
+        6 => Err(Error::StartLength),
+        other => Err(Error::Unknown(other)),
+    }
+}
+
+/// A key with its sizes: n is 1, 2 or 4, a block has 16n bytes; l is 2, 3 or 4, the key has 8nl bytes. Anything may stand here: each
+/// operation answers with 1, 2 or 3 where it is not so, before it looks at anything else. The bytes are the caller's, who clears them.
+#[derive(Clone, Copy)]
+pub struct Key<'a> {
+    /// Words of 64 bits in half a block.
+    pub n: usize,
+    /// Half-blocks in the key.
+    pub l: usize,
+    /// The key, first byte first.
+    pub bytes: &'a [u8],
+}
+
+/// Shows n, l and the key's length, not its bytes.
+impl fmt::Debug for Key<'_> {
+    fn fmt(&self, f: &mut fmt::Formatter<'_>) -> fmt::Result {
+        write!(f, "Key {{ n: {}, l: {}, bytes: {} not shown }}", self.n, self.l, self.bytes.len())
+    }
+}
+
+/// A start block of 16n bytes, first byte first; of another length it is refused with 6. A type of its own, so that it can't be
+/// exchanged with the source.
+#[derive(Clone, Copy, Debug)]
+pub struct Start<'a>(
+    /// Its bytes.
+    pub &'a [u8],
+);
+
+// Of every call below: a slice's pointer is valid for its length, and dst, borrowed mutably, overlaps no other slice. That is all that
+// the library asks of its caller; lengths and sizes may be anything.
+impl Key<'_> {
+    /// Enciphers one block of 16n bytes. Refused with 1, 2, 3, 4 or 5, the first that applies in this order.
+    pub fn encipher(&self, src: &[u8], dst: &mut [u8]) -> Result<(), Error> {
+        let Key { n, l, bytes: key } = *self;
+        answer(unsafe { labyrinth_encipher(n, l, key.as_ptr(), key.len(), src.as_ptr(), src.len(), dst.as_mut_ptr(), dst.len()) })
+    }
+
+    /// Deciphers one block of 16n bytes. Refused as in [`Key::encipher`].
+    pub fn decipher(&self, src: &[u8], dst: &mut [u8]) -> Result<(), Error> {
+        let Key { n, l, bytes: key } = *self;
+        answer(unsafe { labyrinth_decipher(n, l, key.as_ptr(), key.len(), src.as_ptr(), src.len(), dst.as_mut_ptr(), dst.len()) })
+    }
+
+    /// Seals whole blocks, any number of them, by CBC. Refused with 1, 2, 3, 6, 4 or 5, the first that applies in this order. A start
+    /// block is for one page only, and nobody should be able to tell it beforehand. A changed sealed page is not noticed at opening.
+    pub fn cbc_seal(&self, start: Start<'_>, src: &[u8], dst: &mut [u8]) -> Result<(), Error> {
+        let (Key { n, l, bytes: key }, start) = (*self, start.0);
+        answer(unsafe {
+            labyrinth_cbc_seal(
+                n,
+                l,
+                key.as_ptr(),
+                key.len(),
+                start.as_ptr(),
+                start.len(),
+                src.as_ptr(),
+                src.len(),
+                dst.as_mut_ptr(),
+                dst.len(),
+            )
+        })
+    }
+
+    /// Opens what [`Key::cbc_seal`] sealed with the same key and start block. Refused as there. With another key or start block, or of a
+    /// changed page, it gives something else and says nothing.
+    pub fn cbc_open(&self, start: Start<'_>, src: &[u8], dst: &mut [u8]) -> Result<(), Error> {
+        let (Key { n, l, bytes: key }, start) = (*self, start.0);
+        answer(unsafe {
+            labyrinth_cbc_open(
+                n,
+                l,
+                key.as_ptr(),
+                key.len(),
+                start.as_ptr(),
+                start.len(),
+                src.as_ptr(),
+                src.len(),
+                dst.as_mut_ptr(),
+                dst.len(),
+            )
+        })
+    }
+
+    /// Seals or opens any number of bytes by CTR, which is the same. Block i has the counter start + q + i modulo 2^(128n), the start
+    /// block read with its last byte least. Refused with 1, 2, 3, 6 or 5, the first that applies in this order.
+    ///
+    /// Never use one start block with overlapping counters for two pages under one key: whoever has both sealed pages then has the XOR of
+    /// the pages. A changed sealed page is not noticed at opening.
+    pub fn ctr(&self, start: Start<'_>, q: u64, src: &[u8], dst: &mut [u8]) -> Result<(), Error> {
+        let (Key { n, l, bytes: key }, start) = (*self, start.0);
+        answer(unsafe {
+            labyrinth_ctr(
+                n,
+                l,
+                key.as_ptr(),
+                key.len(),
+                start.as_ptr(),
+                start.len(),
+                q,
+                src.as_ptr(),
+                src.len(),
+                dst.as_mut_ptr(),
+                dst.len(),
+            )
+        })
+    }
+}
+
+/// The article's mixing of a word.
+pub fn mix(word: u64) -> u64 {
+    unsafe { labyrinth_mix(word) }
+}
+
+#[cfg(test)]
+mod tests {
+    use super::*;
+
+    const MARK: u8 = 0xA5;
+    const SIZES: [usize; 3] = [1, 2, 4];
+
+    type Operation = fn(&Key<'_>, Start<'_>, &[u8], &mut [u8]) -> Result<(), Error>;
+    const BLOCKS: [Operation; 2] = [|k, _, s, d| k.encipher(s, d), |k, _, s, d| k.decipher(s, d)];
+    const CBC: [Operation; 2] = [|k, t, s, d| k.cbc_seal(t, s, d), |k, t, s, d| k.cbc_open(t, s, d)];
+    const CTR: Operation = |k, t, s, d| k.ctr(t, 5, s, d);
+
+    // n, l and the lengths of key, start block, source and destination
+    fn number_of(operation: Operation, [n, l, key, start, src, dst]: [usize; 6]) -> u8 {
+        let (key, start, src) = (vec![1; key], vec![2; start], vec![3; src]);
+        let mut held = vec![MARK; dst + 16];
+        let number = match operation(&Key { n, l, bytes: &key }, Start(&start), &src, &mut held[8..8 + dst]) {
+            Ok(()) => 0,
+            Err(error) => error.number(),
+        };
+        assert!(held[..8].iter().chain(&held[8 + dst..]).all(|&b| b == MARK), "written past the destination");
+        let touched = held.iter().any(|&b| b != MARK);
+        assert_eq!(touched, number == 0 && dst > 0, "destination after {number}");
+        number
+    }
+
+    // Each fault is mended in the order of the checks, so each number shows that it comes before all later ones.
+    #[test]
+    fn numbers_in_order() {
+        for n in SIZES {
+            for l in [2, 3, 4] {
+                let (block, key) = (16 * n, 8 * n * l);
+                for op in BLOCKS {
+                    assert_eq!(number_of(op, [3, 9, key + 1, 0, block + 1, 0]), 1);
+                    assert_eq!(number_of(op, [n, 9, key + 1, 0, block + 1, 0]), 2);
+                    assert_eq!(number_of(op, [n, l, key + 1, 0, block + 1, 0]), 3);
+                    assert_eq!(number_of(op, [n, l, key, 0, block + 1, 0]), 4);
+                    assert_eq!(number_of(op, [n, l, key, 0, block, block - 1]), 5);
+                    assert_eq!(number_of(op, [n, l, key, 0, block, block]), 0);
+                }
+                for op in [CBC[0], CBC[1], CTR] {
+                    assert_eq!(number_of(op, [3, 9, key - 1, block - 1, block + 1, 0]), 1);
+                    assert_eq!(number_of(op, [n, 9, key - 1, block - 1, block + 1, 0]), 2);
+                    assert_eq!(number_of(op, [n, l, key - 1, block - 1, block + 1, 0]), 3);
+                    assert_eq!(number_of(op, [n, l, key, block - 1, block + 1, 0]), 6);
+                    assert_eq!(number_of(op, [n, l, key, block, 2 * block, 2 * block + 1]), 5);
+                    assert_eq!(number_of(op, [n, l, key, block, 2 * block, 2 * block]), 0);
+                    assert_eq!(number_of(op, [n, l, key, block, 0, 0]), 0);
+                }
+                for op in CBC {
+                    assert_eq!(number_of(op, [n, l, key, block, block + 1, 0]), 4);
+                    assert_eq!(number_of(op, [n, l, key, block, block - 1, block - 1]), 4);
+                }
+                assert_eq!(number_of(CTR, [n, l, key, block, block + 1, 0]), 5);
+                assert_eq!(number_of(CTR, [n, l, key, block, block + 1, block + 1]), 0);
+                assert_eq!(number_of(CTR, [n, l, key, block, 1, 1]), 0);
+            }
+        }
+    }
+
+    #[test]
+    fn sizes_at_full_width() {
+        let wide = |x: u64| usize::try_from(x).unwrap_or(usize::MAX);
+        for op in [BLOCKS[0], BLOCKS[1], CBC[0], CBC[1], CTR] {
+            for bad in [0, 3, 8, 257, wide((1 << 32) + 1), wide(1 << 62), usize::MAX] {
+                assert_eq!(number_of(op, [bad, 2, 16, 16, 16, 16]), 1, "n = {bad}");
+            }
+            for bad in [0, 1, 5, 258, wide((1 << 32) + 2), wide(1 << 61), usize::MAX] {
+                assert_eq!(number_of(op, [1, bad, 16, 16, 16, 16]), 2, "l = {bad}");
+            }
+        }
+    }
+
+    #[test]
+    fn errors_carry_the_number() {
+        assert_eq!(answer(0), Ok(()));
+        for number in 1..=255 {
+            let error = answer(number).unwrap_err();
+            assert_eq!(error.number(), number);
+            assert!(error.to_string().starts_with(&format!("refused with {number}: ")));
+            assert_eq!(matches!(error, Error::Unknown(_)), number > 6);
+        }
+    }
+
+    #[test]
+    fn mixing() {
+        assert_eq!(mix(0x1), 0x0C0F1F0A0F030101);
+        assert_eq!(mix(0x100), 0x0F1F0A0F0301010C);
+        assert_eq!(mix(0x0101010101010101), 0x1A1A1A1A1A1A1A1A);
+    }
+
+    #[test]
+    fn debug_hides_the_key() {
+        let shown = format!("{:?}", Key { n: 1, l: 2, bytes: &[0xAB; 16] });
+        assert_eq!(shown, "Key { n: 1, l: 2, bytes: 16 not shown }");
+    }
+}

@@ -1,0 +1,86 @@
+//! The archivists' vectors (tests/archivists/vectors.json of the repository), all blocks and runs, through the crate.
+use labyrinth::{Key, Start};
+use std::collections::HashMap;
+
+struct Vector(HashMap<String, String>);
+
+impl Vector {
+    fn text(&self, name: &str) -> &str {
+        self.0.get(name).unwrap_or_else(|| panic!("a vector without {name}"))
+    }
+
+    fn number(&self, name: &str) -> usize {
+        self.text(name).parse().unwrap()
+    }
+
+    fn bytes(&self, name: &str) -> Vec<u8> {
+        let text = self.text(name);
+        assert!(text.len() % 2 == 0, "half a byte");
+        (0..text.len()).step_by(2).map(|i| u8::from_str_radix(&text[i..i + 2], 16).unwrap()).collect()
+    }
+}
+
+// The file has one name and value a line, told apart by their indent: 1 for a kind, 2 for a vector's braces, 3 for its parts.
+fn vectors(kind: &str, count: usize) -> Vec<Vector> {
+    let path = concat!(env!("CARGO_MANIFEST_DIR"), "/../../tests/archivists/vectors.json");
+    let text = std::fs::read_to_string(path).unwrap_or_else(|error| panic!("{path}: {error}"));
+    let (mut inside, mut found) = (false, Vec::new());
+    for line in text.lines() {
+        let indent = line.len() - line.trim_start().len();
+        let line = line.trim().trim_end_matches(',');
+        match (indent, line) {
+            (1, "]") => inside = false,
+            (1, _) => inside = line == format!("\"{kind}\": ["),
+            (2, "{") if inside => found.push(Vector(HashMap::new())),
+            (3, _) if inside => {
+                let (name, value) = line.split_once(": ").expect("a name and a value");
+                found.last_mut().expect("a brace first").0.insert(name.replace('"', ""), value.replace('"', ""));
+            }
+            _ => (),
+        }
+    }
+    assert_eq!(found.len(), count, "vectors of the kind {kind}");
+    let sizes: std::collections::HashSet<_> = found.iter().map(|v| (v.number("n"), v.number("l"))).collect();
+    assert_eq!(sizes.len(), 9, "sizes of the kind {kind}");
+    found
+}
+
+#[test]
+fn blocks() {
+    for v in vectors("block", 225) {
+        let (bytes, plain, sealed) = (v.bytes("key"), v.bytes("pt"), v.bytes("ct"));
+        let key = Key { n: v.number("n"), l: v.number("l"), bytes: &bytes };
+        let mut made = vec![0; plain.len()];
+        key.encipher(&plain, &mut made).unwrap();
+        assert_eq!(made, sealed);
+        key.decipher(&sealed, &mut made).unwrap();
+        assert_eq!(made, plain);
+    }
+}
+
+#[test]
+fn cbc() {
+    for v in vectors("cbc", 72) {
+        let (bytes, start, plain, sealed) = (v.bytes("key"), v.bytes("iv"), v.bytes("pt"), v.bytes("ct"));
+        let key = Key { n: v.number("n"), l: v.number("l"), bytes: &bytes };
+        let mut made = vec![0; plain.len()];
+        key.cbc_seal(Start(&start), &plain, &mut made).unwrap();
+        assert_eq!(made, sealed);
+        key.cbc_open(Start(&start), &sealed, &mut made).unwrap();
+        assert_eq!(made, plain);
+    }
+}
+
+#[test]
+fn ctr() {
+    for v in vectors("ctr", 360) {
+        let (bytes, start, plain, sealed) = (v.bytes("key"), v.bytes("start"), v.bytes("pt"), v.bytes("ct"));
+        let key = Key { n: v.number("n"), l: v.number("l"), bytes: &bytes };
+        let q = u64::from_str_radix(v.text("q"), 16).unwrap();
+        let mut made = vec![0; plain.len()];
+        key.ctr(Start(&start), q, &plain, &mut made).unwrap();
+        assert_eq!(made, sealed);
+        key.ctr(Start(&start), q, &sealed, &mut made).unwrap();
+        assert_eq!(made, plain);
+    }
+}

@@ -1,0 +1,432 @@
+#!/usr/bin/env python3
+"""Tries the command labyrinth (target/rust/release/labyrinth): the archivists' CBC and CTR vectors through files and standard streams,
+the page of its own help, every exit status and number, and that no run leaves a half-written OUT; then shows that one altered byte is
+noticed. Expected numbers are document 01's, expected bytes the archivists'."""
+import json
+import os
+import pty
+import re
+import resource
+import shlex
+import shutil
+import signal
+import subprocess
+import sys
+import tempfile
+import time
+
+sys.dont_write_bytecode = True
+HERE = os.path.dirname(os.path.abspath(__file__))
+ROOT = os.path.dirname(HERE)
+sys.path.insert(0, os.path.join(HERE, "archivists"))
+import labyrinth
+import modes
+
+BUILT = os.path.join(ROOT, "target", "rust", "release", "labyrinth")
+KEY = "f00dfeedf00dfeed0123456789abcdef"
+START = "ff" * 16
+MIB = 1 << 20
+OLD = b"what OUT held before"
+NOBODY = 65534
+COUNT = 1285
+
+
+class Wrong(Exception):
+    pass
+
+
+class Place:
+    """A directory with the command, a key file and a page; what a run leaves in it besides OUT is noticed."""
+
+    def __init__(self, path):
+        self.path = path
+        self.count = 0
+        os.chmod(path, 0o755)
+        shutil.copy(BUILT, self.at("labyrinth"))
+        self.write("key", KEY.encode())
+        self.write("page", bytes(i * 7 % 256 for i in range(48)))
+        self.write("odd", bytes(17))
+
+    def at(self, name):
+        return os.path.join(self.path, name)
+
+    def write(self, name, data):
+        with open(self.at(name), "wb") as file:
+            file.write(data)
+
+    def read(self, name):
+        with open(self.at(name), "rb") as file:
+            return file.read()
+
+    def names(self):
+        return sorted(os.listdir(self.path))
+
+    def start(self, words, **more):
+        return subprocess.Popen([self.at("labyrinth"), *words], cwd=self.path, stderr=more.pop("stderr", subprocess.PIPE), **more)
+
+    def run(self, words, given=b"", **more):
+        if "stdin" not in more:
+            more["input"] = given
+        more.setdefault("stdout", subprocess.PIPE)
+        return subprocess.run([self.at("labyrinth"), *words], cwd=self.path, stderr=subprocess.PIPE, timeout=60, **more)
+
+    def fails(self, what, status, says, words, out="out", **more):
+        """The run ends with this status and message; OUT is what it was, once absent and once there; nothing else appears; the message
+        shows nothing of the key."""
+        for old in (None, OLD) if out == "out" else (None,):
+            if old is not None:
+                self.write("out", old)
+            before = self.names()
+            done = self.run(words, **more)
+            message = done.stderr.decode()
+            if done.returncode != status:
+                raise Wrong(f"{what}: status {done.returncode}, not {status}: {message}")
+            if not message.startswith("labyrinth: ") or says not in message:
+                raise Wrong(f"{what}: the message lacks '{says}': {message}")
+            if any(KEY[i : i + 6] in message.lower() for i in range(len(KEY) - 5)):
+                raise Wrong(f"{what}: the message shows the key")
+            if self.names() != before:
+                raise Wrong(f"{what}: left {self.names()} where {before} were")
+            if old is not None and self.read("out") != old:
+                raise Wrong(f"{what}: OUT was altered")
+            if old is not None:
+                os.remove(self.at("out"))
+        self.count += 1
+
+    def works(self, what, words, expected, out="out", **more):
+        done = self.run(words, **more)
+        if done.returncode != 0 or done.stderr:
+            raise Wrong(f"{what}: status {done.returncode}: {done.stderr.decode()}")
+        if (done.stdout if out == "-" else self.read(out)) != expected:
+            raise Wrong(f"{what}: other bytes")
+        self.count += 1
+
+
+def words(way="seal", mode="ctr", n=1, l=2, key="key", start=START, q=None, names=("page", "out")):
+    options = ["--mode", mode, "-n", str(n), "-l", str(l), "--key-file", key, "--start", start]
+    return [way, *options, *(["--offset", str(q)] if q is not None else []), *names]
+
+
+def sealed(mode, data, q=0):
+    cipher, start = labyrinth.Labyrinth(1, bytes.fromhex(KEY)), bytes.fromhex(START)
+    return modes.cbc_encrypt(cipher, start, data) if mode == "cbc" else modes.ctr_crypt(cipher, start, q, data)
+
+
+def vector_cases():
+    with open(os.path.join(HERE, "archivists", "vectors.json")) as file:
+        found = json.load(file)
+    if (len(found["cbc"]), len(found["ctr"])) != (72, 360):
+        raise Wrong("not 72 CBC and 360 CTR vectors")
+    for mode in ("cbc", "ctr"):
+        for v in found[mode]:
+            q = None if mode == "cbc" else "0x" + v["q"]
+            yield mode, v["n"], v["l"], v["key"], v["iv" if mode == "cbc" else "start"], q, bytes.fromhex(v["pt"]), bytes.fromhex(v["ct"])
+
+
+def vectors(place, alter=lambda data: data):
+    """Each is sealed and opened from stream to stream; all by CBC and a fifth by CTR, 8 a size, from file to file too."""
+    for i, (mode, n, l, key, start, q, plain, secret) in enumerate(vector_cases()):
+        place.write("vector.key", key.encode())
+        for way, source, expected in (("seal", plain, secret), ("open", secret, plain)):
+            what = f"{way} {mode}, n = {n}, l = {l}, {len(source)} bytes"
+            place.write("in", source)
+            case = dict(way=way, mode=mode, n=n, l=l, key="vector.key", start=start, q=q)
+            if mode == "cbc" or (i - 72) % 5 == (i - 72) // 40 % 5:
+                place.works(what, words(**case, names=("in", "out")), alter(expected))
+            place.works(what + ", streams", words(**case, names=("-", "-")), alter(expected), out="-", given=source)
+    for name in ("in", "out", "vector.key"):
+        os.remove(place.at(name))
+
+
+def forms(place):
+    """Ways to write one thing."""
+    page = place.read("page")
+    secret = sealed("ctr", page, 31)
+    spaced = "\r\n".join(KEY[i : i + 8].upper() for i in range(0, 32, 8)) + "\n\n"
+    place.write("spaced.key", spaced.encode())
+    place.works("a key in groups", words(key="spaced.key", q=31), secret)
+    place.works("q in hexadecimal", words(q="0x1F"), secret)
+    place.works("a start block in groups", words(q=31, start=" FF" * 16 + " "), secret)
+    place.works("the key from standard input", words(key="-", q=31), secret, given=KEY.encode())
+    place.works("from standard input to a file", words(q=31, names=("-", "out")), secret, given=page)
+    place.works("from a file to standard output", words(q=31, names=("page", "-")), secret, out="-")
+    place.works("q left out", words(), sealed("ctr", page))
+    place.works("options last", ["seal", "page", "out", *words(q=31)[1:-2]], secret)
+    place.write("-x", page)
+    place.works("names after --", words(q=31, names=("--", "-x", "out")), secret)
+    name = os.fsencode(place.path) + b"/\xff\xfe"
+    place.works("a name that is no text", words(q=31, names=("page", name)), secret, out=os.fsdecode(name))
+    for extra in ("-x", "spaced.key", "out", os.fsdecode(name)):
+        os.remove(place.at(extra))
+    # what OUT was: its permissions and a link to it stay
+    place.write("out", OLD)
+    os.chmod(place.at("out"), 0o664)
+    os.symlink("out", place.at("link"))
+    place.works("OUT by a link", words(q=31, names=("page", "link")), secret, preexec_fn=lambda: os.umask(0o077))
+    if not os.path.islink(place.at("link")) or os.stat(place.at("out")).st_mode & 0o7777 != 0o664:
+        raise Wrong("OUT's permissions or the link to it were lost")
+    os.remove(place.at("link"))
+    os.remove(place.at("out"))
+    place.works("a new OUT under a umask", words(q=31), secret, preexec_fn=lambda: os.umask(0o027))
+    if os.stat(place.at("out")).st_mode & 0o7777 != 0o640:
+        raise Wrong("a new OUT doesn't heed the umask")
+    os.remove(place.at("out"))
+
+
+def help_page(place):
+    """The card and the line in the help open a page that the archivists' program sealed so."""
+    text = place.run(["--help"]).stdout.decode()
+    n, l, start, q = re.search(r"n = (\d), l = (\d), CTR, start block ([0-9a-f ]+), q = (\d+),", text).groups()
+    key = re.search(r"^ +key ([0-9a-f ]+)$", text, re.M).group(1)
+    line = re.search(r"^ +(labyrinth open --mode ctr .*)$", text, re.M).group(1)
+    page = b"A page that was sealed by another program.\n"
+    cipher = labyrinth.Labyrinth(int(n), bytes.fromhex(key))
+    if len(bytes.fromhex(key)) != 8 * int(n) * int(l):
+        raise Wrong("the help's key has another length")
+    place.write("card.key", key.encode())
+    place.write("page.sealed", modes.ctr_crypt(cipher, bytes.fromhex(start), int(q), page))
+    os.rename(place.at("page"), place.at("kept"))
+    place.works("the help's line", shlex.split(line)[1:], page, out="page")
+    os.rename(place.at("kept"), place.at("page"))
+    for name in ("card.key", "page.sealed"):
+        os.remove(place.at(name))
+    with open("/dev/full", "wb") as full:
+        place.fails("help to a full disk", 3, "standard output", ["--help"], out="-", stdout=full)
+
+
+def refusals(place):
+    """Status 1, with the number; where several apply, the first by document 01's order."""
+    for n in (0, 3, 8, 257, (1 << 32) + 1, (1 << 64) - 1, 1 << 64, 10**30):
+        place.fails(f"n = {n}", 1, "refused with 1:", words(n=n))
+    for l in (0, 1, 5, 258, (1 << 32) + 2, 1 << 61, (1 << 64) - 1, 10**30):
+        place.fails(f"l = {l}", 1, "refused with 2:", words(l=l))
+    for count in (0, 15, 17, 32):
+        place.write("other.key", b"ab" * count)
+        place.fails(f"a key of {count} bytes", 1, "refused with 3:", words(key="other.key"))
+        place.fails(f"a start block of {count} bytes", 1, "refused with 6:", words(start="ab" * count))
+    for way in ("seal", "open"):
+        cbc = dict(way=way, mode="cbc")
+        place.fails("17 bytes by CBC", 1, "refused with 4:", words(**cbc, names=("odd", "out")))
+        place.fails("17 bytes by CBC", 1, "CBC takes whole blocks only, of 16 bytes", words(**cbc, names=("odd", "out")))
+        for count in (1, 15, 17, MIB + 1):
+            place.fails(f"{count} bytes by CBC", 1, f"IN has {count} bytes", words(**cbc, names=("-", "out")), given=bytes(count))
+        place.fails("cut in the stream", 1, f"{MIB} bytes went to standard output", words(**cbc, names=("-", "-")), out="-", given=bytes(MIB + 1))
+        place.fails("1 before 2", 1, "refused with 1:", words(**cbc, n=3, l=9, key="other.key", start="00", names=("odd", "out")))
+        place.fails("2 before 3", 1, "refused with 2:", words(**cbc, l=9, key="other.key", start="00", names=("odd", "out")))
+        place.fails("3 before 6", 1, "refused with 3:", words(**cbc, key="other.key", start="00", names=("odd", "out")))
+        place.fails("6 before 4", 1, "refused with 6:", words(**cbc, start="00", names=("odd", "out")))
+    os.remove(place.at("other.key"))
+
+
+def usage(place):
+    """Status 2."""
+    good = words(q=1)
+    place.fails("no words", 2, "usage: labyrinth seal|open", [], out="-")
+    for option in ("--mode", "-n", "-l", "--key-file", "--start"):
+        i = good.index(option)
+        place.fails(f"no {option}", 2, option, good[:i] + good[i + 2 :])
+        place.fails(f"{option} twice", 2, "twice", good + good[i : i + 2])
+        place.fails(f"{option} without value", 2, "lacks its value", good[:i] + good[i + 2 :] + [option])
+    for what, case in (
+        ("another verb", words(way="unseal")), ("another mode", words(mode="ecb")), ("an unknown option", [*good, "--pad"]),
+        ("n is no number", words(n="one")), ("n below 0", words(n=-1)), ("l is no number", words(l="")), ("no OUT", good[:-1]),
+        ("a word too many", [*good, "more"]), ("q with CBC", words(mode="cbc", q=1)), ("q below 0", words(q=-1)), ("q too large", words(q=1 << 64)),
+        ("q in bare hexadecimal", words(q="ff")), ("odd digits to start", words(start="f" * 31)), ("start is no number", words(start="fg" * 16)),
+        ("0x to start", words(start="0x" + START)), ("an empty name", words(names=("page", ""))),
+        ("key and IN from one stream", words(key="-", names=("-", "out"))),
+    ):  # fmt: skip
+        place.fails(what, 2, "usage: labyrinth", case)
+    for what, says, text in (
+        ("odd digits", "odd number of hexadecimal digits (31)", KEY[:31]), ("no digits", "character 5 ", KEY[:4] + "x" + KEY[5:]),
+        ("0x", "character 2 ", "0x" + KEY), ("a long file", "more than 65536 bytes", "00" * 32769),
+    ):  # fmt: skip
+        place.write("wrong.key", text.encode())
+        place.fails(f"{what} in the key file", 2, says, words(key="wrong.key"))
+    os.remove(place.at("wrong.key"))
+
+    # one file twice
+    page = place.read("page")
+    os.link(place.at("page"), place.at("hard"))
+    os.symlink("page", place.at("soft"))
+    for name in ("page", "./page", "hard", "soft"):
+        place.fails(f"IN is OUT by {name}", 2, "one file", words(names=("page", name)), out=name)
+    with open(place.at("page"), "rb") as file:
+        place.fails("standard input is OUT", 2, "one file", words(names=("-", "page")), out="page", stdin=file)
+    with open(place.at("page"), "ab") as file:
+        place.fails("standard output is IN", 2, "one file", words(names=("page", "-")), out="-", stdout=file)
+    place.fails("the key file is OUT", 2, "key file", words(names=("page", "key")), out="key")
+    if place.read("page") != page or place.read("key") != KEY.encode():
+        raise Wrong("a page or key was replaced by itself")
+    os.remove(place.at("hard"))
+    os.remove(place.at("soft"))
+
+
+def files(place):
+    """Status 3."""
+    os.mkdir(place.at("directory"))
+    os.mkfifo(place.at("fifo"))
+    os.symlink("nowhere", place.at("dangling"))
+    place.fails("no key file", 3, "missing.key", words(key="missing.key"))
+    place.fails("a directory for a key file", 3, "directory", words(key="directory"))
+    place.fails("no IN", 3, "missing", words(names=("missing", "out")))
+    place.fails("a directory for IN", 3, "directory", words(names=("directory", "out")))
+    for name in ("directory", "fifo", "dangling", "/dev/null", "none/out", "page/out", "x" * 300):
+        place.fails(f"OUT is {name}", 3, f"labyrinth: {name}: ", words(names=("odd", name)), out=name)
+    # someone who may not write there; a run by root takes nobody's place
+    user = {"user": NOBODY, "group": NOBODY, "extra_groups": []} if os.getuid() == 0 else {}
+    os.chmod(place.at("directory"), 0o555)
+    place.fails("OUT in a directory that can't be written", 3, "ermission denied", words(names=("page", "directory/out")), out="directory/out", **user)
+    os.chmod(place.at("directory"), 0o777)
+    place.write("directory/locked", OLD)
+    os.chmod(place.at("directory/locked"), 0o444)
+    locked = words(names=("page", "directory/locked"))
+    place.fails("OUT that can't be written", 3, "ermission denied", locked, out="directory/locked", **user)
+    if os.listdir(place.at("directory")) != ["locked"] or place.read("directory/locked") != OLD:
+        raise Wrong("something was written where it may not")
+    os.remove(place.at("directory/locked"))
+
+    # no room: a limit on a file's size, and a full disk behind standard output
+    def small():
+        resource.setrlimit(resource.RLIMIT_FSIZE, (MIB + MIB // 2, MIB + MIB // 2))
+
+    place.fails("no room for OUT", 3, "labyrinth: out: ", words(names=("-", "out")), given=bytes(3 * MIB), preexec_fn=small)
+    with open("/dev/full", "wb") as full:
+        place.fails("no room behind standard output", 3, "standard output", words(names=("page", "-")), out="-", stdout=full)
+    reading, writing = os.pipe()
+    os.close(reading)
+    place.fails("nobody reads standard output", 3, "standard output", words(names=("page", "-")), out="-", stdout=writing)
+    os.close(writing)
+    os.rmdir(place.at("directory"))
+    for name in ("fifo", "dangling"):
+        os.remove(place.at(name))
+
+
+def parts(place):
+    return [name for name in place.names() if name.endswith(".part")]
+
+
+def begun(place, out="out", **more):
+    """A run that has written its first piece and waits for more."""
+    process = place.start(words(names=("-", out)), stdin=subprocess.PIPE, **more)
+    process.stdin.write(bytes(MIB + 5))
+    process.stdin.flush()
+    until = time.monotonic() + 20
+    while not any(f".{process.pid}." in name and os.stat(place.at(name)).st_size >= MIB for name in parts(place)):
+        if time.monotonic() > until or process.poll() is not None:
+            process.kill()
+            raise Wrong("a long run doesn't write beside OUT")
+        time.sleep(0.005)
+    return process
+
+
+def ended(place):
+    """A signal in a long run: OUT is what it was, and all but KILL leave nothing beside it."""
+    for number in (signal.SIGTERM, signal.SIGINT, signal.SIGHUP, signal.SIGQUIT, signal.SIGKILL):
+        for old in (None, OLD):
+            if old is not None:
+                place.write("out", old)
+                os.chmod(place.at("out"), 0o600)
+            before = place.names()
+            process = begun(place)
+            if old is not None and any(os.stat(place.at(name)).st_mode & 0o077 for name in parts(place)):
+                process.kill()
+                raise Wrong("the new file may be read by more people than OUT")
+            process.send_signal(number)
+            status = process.wait(20)
+            process.stdin.close()
+            process.stderr.close()
+            if status != -number:
+                raise Wrong(f"{number.name}: status {status}")
+            if number == signal.SIGKILL:
+                for name in parts(place):
+                    os.remove(place.at(name))
+            if place.names() != before:
+                raise Wrong(f"{number.name}: left {place.names()} where {before} were")
+            if old is not None and place.read("out") != old:
+                raise Wrong(f"{number.name}: OUT was altered")
+            if old is not None:
+                os.remove(place.at("out"))
+            place.count += 1
+    # as nohup starts it
+    process = begun(place, preexec_fn=lambda: signal.signal(signal.SIGHUP, signal.SIG_IGN))
+    process.send_signal(signal.SIGHUP)
+    process.stdin.close()
+    if process.wait(20) != 0 or len(place.read("out")) != MIB + 5 or parts(place):
+        raise Wrong("HUP ended a run that was to ignore it")
+    process.stderr.close()
+    os.remove(place.at("out"))
+    place.count += 1
+
+
+def progress(place):
+    """A line on a terminal after a second, none before and none elsewhere; a page of 64 MiB passes where the command may take 32 MiB of memory."""
+    ours, theirs = pty.openpty()
+    processes = [begun(place, stderr=theirs), begun(place, out="other")]
+    os.set_blocking(ours, False)
+    try:
+        early = os.read(ours, 4096)
+    except BlockingIOError:
+        early = b""
+    time.sleep(1.1)
+    for process in processes:
+        process.stdin.write(bytes(2 * MIB))
+        process.stdin.close()
+        if process.wait(20) != 0:
+            raise Wrong("a long run failed")
+    with processes[1].stderr as told:
+        if told.read():
+            raise Wrong("a progress line where there is no terminal")
+    shown = os.read(ours, 4096).decode()
+    os.close(ours)
+    os.close(theirs)
+    if early or not re.match(r"\rlabyrinth: [23] MiB", shown) or not re.search(r"\r +\r$", shown):
+        raise Wrong(f"the progress line: {early!r}, {shown!r}")
+    os.remove(place.at("out"))
+    os.remove(place.at("other"))
+    with open(place.at("long"), "wb") as file:
+        file.truncate(64 * MIB)
+
+    def narrow():
+        resource.setrlimit(resource.RLIMIT_AS, (32 * MIB, 32 * MIB))
+
+    done = place.run(words(names=("long", "-")), stdout=subprocess.DEVNULL, preexec_fn=narrow)
+    if done.returncode != 0 or done.stderr:
+        raise Wrong(f"64 MiB: status {done.returncode}: {done.stderr.decode()}")
+    os.remove(place.at("long"))
+    place.count += 2
+
+
+def altered(place):
+    """One changed bit of one expected page is noticed."""
+    try:
+        vectors(place, lambda data: data[:-1] + bytes([data[-1] ^ 1]) if data else data)
+    except Wrong as wrong:
+        if "other bytes" not in str(wrong):
+            raise
+        place.count += 1
+        return
+    raise Wrong("altered vectors passed")
+
+
+def main():
+    if not os.path.exists(BUILT):
+        sys.exit("command: target/rust/release/labyrinth is not there: tests/rust.sh builds it")
+    with tempfile.TemporaryDirectory() as path:
+        place = Place(path)
+        held = place.names()
+        try:
+            for part in (vectors, forms, help_page, refusals, usage, files, ended, progress):
+                part(place)
+                if place.names() != held:
+                    raise Wrong(f"{part.__name__} left {place.names()}")
+            count = place.count
+            altered(Place(tempfile.mkdtemp(dir=path)))
+        except Wrong as wrong:
+            sys.exit(f"command: FAILED: {wrong}")
+    if count != COUNT:
+        sys.exit(f"command: FAILED: {count} checks, not {COUNT}")
+    print(f"command: {count} checks, and an altered byte is noticed")
+
+
+if __name__ == "__main__":
+    main()

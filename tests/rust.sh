@@ -1,0 +1,79 @@
+#!/usr/bin/env bash
+# The Rust crate and the command, offline: builds both, runs their tests and the example, holds the example to the archivists' program
+# and the crate's declarations to include/labyrinth.h, then tries the command (tests/command.py). Needs what `make lib` makes.
+set -u
+cd "$(dirname "$0")/.." || exit 1
+for tool in cargo rustc python3; do
+    command -v "$tool" >/dev/null || { echo "rust: $tool is not here"; exit 1; }
+done
+work=$(mktemp -d) || exit 1
+trap 'rm -rf "$work"' EXIT
+root=$PWD
+unset LABYRINTH_DIST
+export CARGO_TARGET_DIR=$root/target/rust CARGO_TERM_COLOR=never
+status=0
+wrong() { echo "rust: $*"; status=1; }
+quietly() { "$@" >"$work/log" 2>&1 || { cat "$work/log"; return 1; }; }
+cd rust || exit 1
+
+quietly cargo build --offline --locked --release --workspace --examples --bins || { echo "rust: FAILED: the build"; exit 1; }
+! grep -q '^warning' "$work/log" || { cat "$work/log"; wrong "the build warns"; }
+
+# ---- the tests of both crates
+quietly cargo test --offline --locked --release --workspace || wrong "cargo test"
+passed=$(awk '/^test result: ok/ { n += $4 } END { print n + 0 }' "$work/log")
+[ "$passed" -eq 15 ] || wrong "cargo test: $passed tests passed, not 15"
+
+# ---- without the archive the build says what to do; LABYRINTH_DIST says where it is
+mkdir "$work/none" "$work/dist" && cp "$root/target/dist/liblabyrinth.a" "$work/dist" || exit 1
+export CARGO_TARGET_DIR=$root/target/rust-dist
+! LABYRINTH_DIST=$work/none cargo build --offline --locked -p labyrinth >"$work/log" 2>&1 || wrong "built without the archive"
+grep -q 'make lib' "$work/log" || { cat "$work/log"; wrong "without the archive the build doesn't say make lib"; }
+LABYRINTH_DIST=$work/dist quietly cargo build --offline --locked -p labyrinth || wrong "LABYRINTH_DIST is not heeded"
+cd "$root" || exit 1
+
+# ---- the crate declares what the header declares
+python3 - include/labyrinth.h rust/labyrinth/src/lib.rs <<'P' || wrong "the crate's declarations"
+import re
+import sys
+
+TYPES = {"size_t": "usize", "uint8_t": "u8", "uint64_t": "u64", "const uint8_t *": "*const u8", "uint8_t *": "*mut u8"}
+header, crate = (open(name).read() for name in sys.argv[1:])
+declared = set()
+for result, name, parameters in re.findall(r"^(\w+) (labyrinth_\w+)\(([^)]*)\);", header, re.M):
+    parts = [re.fullmatch(r"(.*[ *])(\w+)", p.strip()).groups() for p in parameters.split(",")]
+    declared.add(f"{name}({', '.join(f'{word}: {TYPES[kind.strip()]}' for kind, word in parts)}) -> {TYPES[result]}")
+block = re.search(r'extern "C" \{(.*?)\n\}', crate, re.S).group(1)
+taken = {re.sub(r"\s+", " ", t).replace("( ", "(").replace(", )", ")") for t in re.findall(r"fn (.*?);", block, re.S)}
+if len(declared) != 6 or declared != taken:
+    sys.exit(f"rust: the header and the crate differ: {sorted(declared ^ taken)}")
+P
+
+# ---- the example, and what it sealed by the archivists' program
+"target/rust/release/examples/page" >"$work/page" || wrong "the example"
+python3 -B - "$work/page" <<'P' || wrong "the example's pages"
+import sys
+
+sys.path.insert(0, "tests/archivists")
+import labyrinth
+import modes
+
+lines = [line.split() for line in open(sys.argv[1])]
+pages = {line[0]: dict(zip(line[1::2], line[2::2])) for line in lines}
+if sorted(pages) != ["cbc", "ctr"]:
+    sys.exit("rust: the example doesn't show two pages")
+for mode, page in pages.items():
+    key, start, plain = (bytes.fromhex(page[part]) for part in ("key", "start", "page"))
+    if len(key) != 8 * int(page["n"]) * int(page["l"]):
+        sys.exit("rust: the example's key has another length")
+    cipher = labyrinth.Labyrinth(int(page["n"]), key)
+    sealed = modes.cbc_encrypt(cipher, start, plain) if mode == "cbc" else modes.ctr_crypt(cipher, start, int(page["q"]), plain)
+    if sealed.hex() != page["sealed"]:
+        sys.exit(f"rust: the example's page by {mode} is not what the archivists' program seals")
+P
+
+# ---- the command
+tests/command.py || wrong "the command"
+
+[ "$status" -eq 0 ] || { echo "rust: FAILED"; exit 1; }
+echo "rust: both crates built, $passed tests, the example, the declarations and the command: all as expected"
