@@ -2,7 +2,7 @@
 # The gate: rt ci once, then every other check on what it built. The last line is rt ci's own, printed again only if all passed.
 set -u
 cd "$(dirname "$0")/.." || exit 1
-for tool in rt python3 sha256sum cmp awk sort; do
+for tool in rt python3 sha256sum cmp awk sort gcc g++ make nm readelf; do
     command -v "$tool" >/dev/null || { echo "gate: $tool is not here"; exit 1; }
 done
 work=$(mktemp -d) || exit 1
@@ -35,6 +35,18 @@ tests/compare.sh || fail "the comparison with the archivists"
 
 # ---- the tape program and the tools for people, on tapes made from the archivists' vectors and document 01
 tests/tapes.py || fail "the tapes"
+
+# ---- the library as C, Rust and people see it
+make -s lib >"$work/lib" 2>&1 || { tail -n 20 "$work/lib"; fail "make lib"; }
+tests/c_interface.sh || fail "the C interface"
+if cargo --version >/dev/null 2>&1; then
+    tests/rust.sh || fail "the Rust crate and the command"
+else
+    echo "gate: cargo is not here: the Rust crate and the command were not tried"
+fi
+
+# ---- the paper for the successor
+tests/paper.py || fail "the paper for the successor"
 
 [ "$failures" -eq 0 ] || { echo "gate: $failures checks failed"; exit 1; }
 echo "$last"
