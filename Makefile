@@ -2,9 +2,10 @@
 # make test     the gate
 # make lib      the static library and its header, to target/dist
 # make example  builds the library and runs examples/page.c over it
-# make bench    times the proved code against C
+# make compare  the library against the archivists' program; ARCHIVIST='command' for another program, SEED=number to repeat a run
+# make bench    times the proved code against C, and against OpenSSL's Camellia and ARIA where it is installed
 # make paper    the paper for the successor for print, to target/OPENING-A-PAGE.pdf
-.PHONY: run test lib example bench paper
+.PHONY: run test lib example compare bench paper
 
 run:
 	rt check tape_program
@@ -27,9 +28,14 @@ example: lib
 	gcc -std=c99 -Wall -Wextra -Wpedantic -I target/dist examples/page.c target/dist/liblabyrinth.a -o target/page
 	target/page
 
+compare: lib
+	tests/compare_c.py $${ARCHIVIST:+--archivist "$$ARCHIVIST"} $${SEED:+--seed "$$SEED"}
+
 bench:
 	rt staticlib bench_blocks
-	gcc -std=c11 -O3 -Wall -Wextra -o target/bench bench/bench.c bench/labyrinth.c target/staticlib/libbench_blocks.a
+	with=; if printf '#include <openssl/evp.h>\nint main(void) { return EVP_aria_128_ctr() == 0; }\n' | gcc -x c -o target/has_openssl - -lcrypto 2>/dev/null; \
+	then with='-DOPENSSL -lcrypto'; fi; \
+	gcc -std=c11 -O3 -Wall -Wextra -o target/bench bench/bench.c bench/labyrinth.c bench/others.c target/staticlib/libbench_blocks.a $$with
 	target/bench
 
 paper:

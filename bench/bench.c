@@ -1,11 +1,14 @@
-/* Times the proved code against C at n = 1, 2 and 4: many blocks each by itself, both ways, and runs by CBC and CTR; the best of many
-   passes, one of C and one of ours in turn. First both must give the same bytes. It assumes Linux on x86-64. */
+/* Times the proved code against C in several shapes and OpenSSL's Camellia and ARIA at n = 1, 2 and 4: many blocks each by itself, both
+   ways, and runs by CBC and CTR; then runs of all lengths, expansion, and short runs. Always the best of several passes, all in turn.
+   First C must give the same bytes. Times are of the processor given to the thread, so that other work disturbs them little; short runs go
+   by the clock, which is read faster. It assumes Linux on x86-64. */
 #define _POSIX_C_SOURCE 199309L
 #include <stdint.h>
 #include <stdio.h>
 #include <string.h>
 #include <time.h>
 #include "labyrinth.h"
+#include "others.h"
 
 /* The proved code. A slice is a pointer and a length. */
 uint8_t sigourta_blocks(size_t n, const uint64_t words[32], uint8_t back, const uint8_t *src, size_t src_length, uint8_t *dst, size_t dst_length);
@@ -14,12 +17,15 @@ uint8_t sigourta_cbc_seal(size_t n, const uint64_t words[32], const uint8_t *sta
 uint8_t sigourta_cbc_open(size_t n, const uint64_t words[32], const uint8_t *start, size_t start_length, const uint8_t *src, size_t src_length, uint8_t *dst, size_t dst_length);
 uint8_t sigourta_ctr(size_t n, const uint64_t words[32], const uint8_t *start, size_t start_length, uint64_t q, const uint8_t *src, size_t src_length, uint8_t *dst, size_t dst_length);
 
-enum { LONGEST = 1 << 20, KINDS = 5 };
+enum { KINDS = 5, LONG = 1 << 20, LONGEST = 1 << 24 };
 static const char *const KIND[KINDS] = {"enciphering", "deciphering", "CBC sealing", "CBC opening", "CTR"};
-static const size_t LENGTH[KINDS] = {1 << 16, 1 << 16, LONGEST, LONGEST, LONGEST};
-static const int PASSES[KINDS] = {400, 400, 40, 40, 40};
+static const size_t LENGTH[KINDS] = {1 << 16, 1 << 16, LONG, LONG, LONG};
+static const int PASSES[KINDS] = {300, 300, 30, 30, 30};
 
-static uint8_t input[LONGEST], by_c[LONGEST], by_us[LONGEST], start[64];
+/* who is timed: ours, C in four shapes, and OpenSSL's two */
+enum { US, C_FIRST, C_LAST = C_FIRST + LAB_EIGHT_PAIRS, OTHER_FIRST, OTHER_LAST = OTHER_FIRST + ARIA, ALL };
+
+static uint8_t input[LONGEST], by_us[LONGEST], by_c[LONG], start[64];
 static uint64_t words[32];
 
 static uint64_t next_random(void) {
@@ -30,93 +36,188 @@ static uint64_t next_random(void) {
     return x;
 }
 
-static double now(void) {
+static double read_clock(clockid_t clock) {
     struct timespec t;
-    clock_gettime(CLOCK_MONOTONIC, &t);
+    clock_gettime(clock, &t);
     return 1e9 * (double)t.tv_sec + (double)t.tv_nsec;
 }
 
-/* Both make the schedule in each pass; ours makes the tables too. */
-static double time_c(int kind, int n, size_t length) {
-    uint64_t schedule[80];
-    size_t blocks = length / (16 * (size_t)n);
-    double began = now();
-    lab_schedule(n, words, kind == 1 || kind == 3, schedule);
-    if (kind < 2) lab_blocks(n, schedule, input, by_c, blocks);
-    else if (kind == 2) lab_cbc_seal(n, schedule, start, input, by_c, blocks);
-    else if (kind == 3) lab_cbc_open(n, schedule, start, input, by_c, blocks);
-    else lab_ctr(n, schedule, start, input, by_c, blocks);
-    return now() - began;
-}
-
-static double time_us(int kind, int n, size_t length) {
-    size_t z = 16 * (size_t)n;
-    double began = now();
-    if (kind < 2) sigourta_blocks((size_t)n, words, (uint8_t)kind, input, length, by_us, length);
-    else if (kind == 2) sigourta_cbc_seal((size_t)n, words, start, z, input, length, by_us, length);
-    else if (kind == 3) sigourta_cbc_open((size_t)n, words, start, z, input, length, by_us, length);
-    else sigourta_ctr((size_t)n, words, start, z, 0, input, length, by_us, length);
-    return now() - began;
-}
-
-/* 0 if the two differ */
-static int compare(int kind, int n) {
-    memset(by_c, 0x55, LONGEST);
-    memset(by_us, 0xAA, LONGEST);
-    time_c(kind, n, LENGTH[kind]);
-    time_us(kind, n, LENGTH[kind]);
-    if (memcmp(by_c, by_us, LENGTH[kind]) == 0) return 1;
-    printf("n = %d, %s: DIFFER\n", n, KIND[kind]);
-    return 0;
-}
+static double now(void) { return read_clock(CLOCK_THREAD_CPUTIME_ID); }
 
 static void keep(double *best, double t) {
     if (*best == 0 || t < *best) *best = t;
 }
 
+/* Both make the schedule in each pass; ours makes the tables too. */
+static double time_c(enum lab_shape shape, int kind, int n, size_t length) {
+    uint64_t schedule[80];
+    double began = now();
+    lab_schedule(n, words, kind == LAB_DECIPHER || kind == LAB_CBC_OPEN, schedule);
+    lab_run(shape, (enum lab_kind)kind, n, schedule, start, input, by_c, length / (16 * (size_t)n));
+    return now() - began;
+}
+
+static uint8_t run_us(int kind, int n, size_t length) {
+    size_t z = 16 * (size_t)n;
+    if (kind < 2) return sigourta_blocks((size_t)n, words, (uint8_t)kind, input, length, by_us, length);
+    if (kind == 2) return sigourta_cbc_seal((size_t)n, words, start, z, input, length, by_us, length);
+    if (kind == 3) return sigourta_cbc_open((size_t)n, words, start, z, input, length, by_us, length);
+    return sigourta_ctr((size_t)n, words, start, z, 0, input, length, by_us, length);
+}
+
+static double time_us(int kind, int n, size_t length) {
+    double began = now();
+    run_us(kind, n, length);
+    return now() - began;
+}
+
+/* OpenSSL sets its key in each pass too. */
+static double time_other(enum other cipher, int kind, size_t length) {
+    double began = now();
+    other_run(cipher, (enum other_kind)(kind - LAB_CBC_SEAL), start, start + 16, input, by_c, length);
+    return now() - began;
+}
+
+/* Single blocks are not OpenSSL's; only CBC opening and CTR can go by pairs. */
+static int takes_part(int who, int kind) {
+    if (who >= OTHER_FIRST) return others_version() && kind >= LAB_CBC_SEAL;
+    return who < C_FIRST + LAB_ONE_PAIRS || kind >= LAB_CBC_OPEN;
+}
+
+static double time_of(int who, int kind, int n, size_t length) {
+    if (who == US) return time_us(kind, n, length);
+    if (who <= C_LAST) return time_c((enum lab_shape)(who - C_FIRST), kind, n, length);
+    return time_other((enum other)(who - OTHER_FIRST), kind, length);
+}
+
+/* C in each shape against ours, an even and an odd number of blocks; 0 if they differ */
+static int same_bytes(int kind, int n) {
+    for (int who = C_FIRST; who <= C_LAST; who++)
+        for (size_t length = LENGTH[kind]; takes_part(who, kind) && length >= LENGTH[kind] - 16 * (size_t)n; length -= 16 * (size_t)n) {
+            memset(by_c, 0x55, LENGTH[kind]);
+            memset(by_us, 0xAA, LENGTH[kind]);
+            time_of(who, kind, n, length);
+            if (run_us(kind, n, length) != 0 || memcmp(by_c, by_us, length) != 0) {
+                printf("n = %d, %s, C's shape %d: DIFFER\n", n, KIND[kind], who - C_FIRST);
+                return 0;
+            }
+        }
+    return 1;
+}
+
+/* OpenSSL opens what it sealed, and did seal; 0 if not */
+static int others_work(enum other cipher) {
+    for (int ctr = 0; ctr < 2; ctr++)
+        if (!other_run(cipher, ctr ? OTHER_CTR : OTHER_CBC_SEAL, start, start + 16, input, by_c, LONG) || memcmp(by_c, input, LONG) == 0
+            || !other_run(cipher, ctr ? OTHER_CTR : OTHER_CBC_OPEN, start, start + 16, by_c, by_us, LONG) || memcmp(by_us, input, LONG) != 0) {
+            printf("OpenSSL's %s does not work\n", cipher == CAMELLIA ? "Camellia" : "ARIA");
+            return 0;
+        }
+    return 1;
+}
+
 static double long_run[KINDS][3];
 
-static void long_runs(void) {
-    printf("Both give the same bytes. Both are release builds (-O3). The destination buffers are not cleared between passes.\n");
-    printf("The best of many passes each, in turn. Ratio: C's time / ours; above 1.00 ours is faster.\n");
-    printf("n  kind         length   C ns/block  ours ns/block  ratio\n");
+static void ratios(void) {
+    printf("Ours against others: their time / ours for as many bytes; above 1.00 ours is faster. 64 KiB of single blocks, runs of 1 MiB.\n");
+    printf("C gives the same bytes. All are release builds (C: gcc -O3). The destination buffers are not cleared between passes.\n");
+    printf("Camellia and ARIA have keys and blocks of 128 bits. OpenSSL: %s.\n", others_version() ? others_version() : "not installed");
+    printf("%32s%20s%20s%20s\n", "ours", "C, block by block", "C, two side by side", "OpenSSL");
+    printf("n  kind         ns/block ns/byte   1 table  8 tables   1 table  8 tables  Camellia      ARIA\n");
     for (int kind = 0; kind < KINDS; kind++)
         for (int size = 0; size < 3; size++) {
-            double c = 0, us = 0, blocks = (double)LENGTH[kind] / (16 << size);
-            for (int pass = 0; pass < PASSES[kind]; pass++) {
-                keep(&c, time_c(kind, 1 << size, LENGTH[kind]));
-                keep(&us, time_us(kind, 1 << size, LENGTH[kind]));
-            }
-            long_run[kind][size] = us / blocks;
-            printf("%d  %-11s  %7zu  %10.1f  %13.1f  %5.2f\n", 1 << size, KIND[kind], LENGTH[kind], c / blocks, us / blocks, c / us);
+            double best[ALL] = {0}, blocks = (double)LENGTH[kind] / (16 << size);
+            for (int pass = 0; pass < PASSES[kind]; pass++)
+                for (int who = US; who <= OTHER_LAST; who++)
+                    if (takes_part(who, kind)) keep(&best[who], time_of(who, kind, 1 << size, LENGTH[kind]));
+            long_run[kind][size] = best[US] / blocks;
+            printf("%d  %-11s  %8.1f %7.2f", 1 << size, KIND[kind], best[US] / blocks, best[US] / (double)LENGTH[kind]);
+            for (int who = C_FIRST; who <= OTHER_LAST; who++)
+                if (takes_part(who, kind)) printf("  %8.2f", best[who] / best[US]);
+                else printf("  %8s", "-");
+            printf("\n");
         }
 }
 
-/* ns for the quickest of the three key lengths */
-static double expansion(size_t n) {
+/* ns for one of many calls, so that reading the clock weighs little */
+static double run_often(int kind, int n, size_t length) {
+    size_t calls = length < 65536 ? 65536 / length : 1;
+    double began = now();
+    for (size_t i = 0; i < calls; i++) run_us(kind, n, length);
+    return (now() - began) / (double)calls;
+}
+
+enum { LENGTHS = 11, SWEEPS = 5 };
+
+/* runs of 16 bytes to 16 MiB; a CBC run has whole blocks only */
+static void growth(void) {
+    static double best[LENGTHS][KINDS][3];
+    for (int sweep = 0; sweep < SWEEPS; sweep++)
+        for (int i = 0; i < LENGTHS; i++)
+            for (int kind = LAB_CBC_SEAL; kind < KINDS; kind++)
+                for (int size = 0; size < 3; size++) {
+                    size_t length = (size_t)16 << 2 * i;
+                    if (kind != LAB_CTR && length < (size_t)16 << size) continue;
+                    double until = now() + 1e7;
+                    do keep(&best[i][kind][size], run_often(kind, 1 << size, length));
+                    while (now() < until);
+                }
+    printf("Ours, ns/byte as the run grows, under an expanded key; tables and schedule are made in each run.\n");
+    printf("%8s%21s%21s%21s\n", "", KIND[LAB_CBC_SEAL], KIND[LAB_CBC_OPEN], KIND[LAB_CTR]);
+    printf("   bytes");
+    for (int i = 0; i < 3; i++) printf("  n = 1      2      4");
+    printf("\n");
+    for (int i = 0; i < LENGTHS; i++) {
+        printf("%8zu", (size_t)16 << 2 * i);
+        for (int kind = LAB_CBC_SEAL; kind < KINDS; kind++)
+            for (int size = 0; size < 3; size++)
+                if (best[i][kind][size] > 0) printf("%7.2f", best[i][kind][size] / (double)((size_t)16 << 2 * i));
+                else printf("%7s", "-");
+        printf("\n");
+    }
+}
+
+static double expansions[3][3];
+
+static void expansion(void) {
     static uint64_t expanded[32];
-    double best = 0;
-    for (size_t l = 2; l <= 4; l++)
-        for (int pass = 0; pass < 2000; pass++) {
-            double began = now();
-            sigourta_expand(n, l, input, 8 * n * l, expanded);
-            keep(&best, now() - began);
-        }
-    return best;
+    for (int pass = 0; pass < 200; pass++)
+        for (size_t size = 0; size < 3; size++)
+            for (size_t l = 2; l <= 4; l++) {
+                size_t n = (size_t)1 << size;
+                double began = now();
+                for (int i = 0; i < 100; i++) sigourta_expand(n, l, input, 8 * n * l, expanded);
+                keep(&expansions[size][l - 2], (now() - began) / 100);
+            }
+    printf("Ours, ns for the expansion of a key.\n");
+    printf("n  l = 2      3      4\n");
+    for (int size = 0; size < 3; size++) printf("%d %6.0f %6.0f %6.0f\n", 1 << size, expansions[size][0], expansions[size][1], expansions[size][2]);
+}
+
+/* ns by the clock for one call */
+static double short_run(int kind, int n, size_t length) {
+    double began = read_clock(CLOCK_MONOTONIC);
+    run_us(kind, n, length);
+    return read_clock(CLOCK_MONOTONIC) - began;
 }
 
 /* a short run beside what it may cost: 1.5 times its blocks' share of a long run, and one expansion */
 static void short_runs(void) {
-    printf("Short runs: ns a run, and in brackets 1.5 times its share of a long run plus one expansion.\n");
+    static double best[3][KINDS][4];
+    for (int sweep = 0; sweep < 20; sweep++)
+        for (int size = 0; size < 3; size++)
+            for (int kind = LAB_CBC_SEAL; kind < KINDS; kind++)
+                for (int i = 0; (size_t)16 << size << 2 * i <= 1024; i++)
+                    for (int pass = 0; pass < 200; pass++) keep(&best[size][kind][i], short_run(kind, 1 << size, (size_t)16 << size << 2 * i));
+    printf("Short runs: ns a run, and in brackets 1.5 times its share of a long run plus one expansion, the quickest of the three.\n");
     for (int size = 0; size < 3; size++) {
-        double expand = expansion((size_t)1 << size);
-        printf("%d  expansion: %.0f\n", 1 << size, expand);
-        for (int kind = 2; kind < KINDS; kind++) {
+        double expand = 0;
+        for (int l = 0; l < 3; l++) keep(&expand, expansions[size][l]);
+        for (int kind = LAB_CBC_SEAL; kind < KINDS; kind++) {
             printf("%d  %-11s", 1 << size, KIND[kind]);
-            for (size_t length = (size_t)16 << size; length <= 1024; length *= 4) {
-                double us = 0, share = long_run[kind][size] * (double)(length / ((size_t)16 << size));
-                for (int pass = 0; pass < 2000; pass++) keep(&us, time_us(kind, 1 << size, length));
-                printf("  %zu bytes: %.0f (%.0f)", length, us, 1.5 * share + expand);
+            for (int i = 0; (size_t)16 << size << 2 * i <= 1024; i++) {
+                double share = long_run[kind][size] * (double)(1 << 2 * i);
+                printf("  %d bytes: %.0f (%.0f)", 16 << size << 2 * i, best[size][kind][i], 1.5 * share + expand);
             }
             printf("\n");
         }
@@ -126,11 +227,16 @@ static void short_runs(void) {
 int main(void) {
     for (int i = 0; i < 32; i++) words[i] = next_random();
     for (int i = 0; i < 64; i++) start[i] = (uint8_t)(next_random() >> 32);
+    for (int size = 0; size < 3; size++) memset(start + (16 << size) - 2, 0xFF, 2); /* so that CTR's counter carries */
     for (int i = 0; i < LONGEST; i++) input[i] = (uint8_t)(next_random() >> 32);
+    lab_init();
     for (int kind = 0; kind < KINDS; kind++)
         for (int size = 0; size < 3; size++)
-            if (!compare(kind, 1 << size)) return 1;
-    long_runs();
+            if (!same_bytes(kind, 1 << size)) return 1;
+    if (others_version() && !(others_work(CAMELLIA) && others_work(ARIA))) return 1;
+    ratios();
+    growth();
+    expansion();
     short_runs();
     return 0;
 }

@@ -1,8 +1,11 @@
-/* Labyrinth in C, written for the benchmark alone: the baseline that the proved code is measured against. One table of 256 words with
-   rotations, the schedule made beforehand, 8-byte loads and stores, each size compiled by itself. It assumes a little-endian machine. */
+/* Labyrinth in C, written for the benchmark alone: the baseline that the proved code is measured against. By one table of 256
+   words with rotations or by eight tables rotated beforehand; a block at a time or, where the mode allows, two side by side. The schedule is
+   made beforehand, loads and stores are of 8 bytes, each size and shape is compiled by itself. It assumes a little-endian machine. */
 #include "labyrinth.h"
 #include <string.h>
 #include "labyrinth_tables.h"
+
+#define INLINE static inline __attribute__((always_inline))
 
 static inline uint64_t rol(uint64_t x, int k) { return k ? x << k | x >> (64 - k) : x; }
 static inline uint64_t load(const uint8_t *p) { uint64_t x; memcpy(&x, p, 8); return x; }
@@ -16,18 +19,29 @@ static inline uint64_t sub(const uint8_t *s, uint64_t x) {
         | (uint64_t)s[x >> 32 & 255] << 32 | (uint64_t)s[x >> 40 & 255] << 40 | (uint64_t)s[x >> 48 & 255] << 48 | (uint64_t)s[x >> 56] << 56;
 }
 
+/* T rotated by 8b bits */
+static uint64_t T8[8][256];
+
+void lab_init(void) {
+    for (int b = 0; b < 8; b++)
+        for (int x = 0; x < 256; x++) T8[b][x] = rol(T[x], 8 * b);
+}
+
 /* l ^= F(r) under the key k: byte b of word j of the permuted half is byte b of word (j + b) mod n */
-static inline __attribute__((always_inline)) void round_(int n, const uint64_t *k, const uint64_t *r, uint64_t *l) {
+INLINE void round_(int n, int wide, const uint64_t *k, const uint64_t *r, uint64_t *l) {
     uint64_t y[4];
     for (int j = 0; j < n; j++) y[j] = r[j] + k[j];
     for (int j = 0; j < n; j++) {
         uint64_t v = XC[j];
-        for (int b = 0; b < 8; b++) v ^= rol(T[y[(j + b) % n] >> 8 * b & 255], 8 * b);
+        for (int b = 0; b < 8; b++) {
+            uint64_t x = y[(j + b) % n] >> 8 * b & 255;
+            v ^= wide ? T8[b][x] : rol(T[x], 8 * b);
+        }
         l[j] ^= v;
     }
 }
 
-static inline __attribute__((always_inline)) void imix(int n, uint64_t *l, uint64_t *r) {
+INLINE void imix(int n, uint64_t *l, uint64_t *r) {
     uint64_t d[4];
     for (int j = 0; j < n; j++) d[j] = l[j] ^ r[j];
     d[0] = rol(d[0], 28);
@@ -35,22 +49,45 @@ static inline __attribute__((always_inline)) void imix(int n, uint64_t *l, uint6
 }
 
 /* k: IT low, IT high, sixteen rounds, FT low, FT high */
-static inline __attribute__((always_inline)) void block(int n, const uint64_t *k, const uint8_t *src, uint8_t *dst) {
-    uint64_t l[4], r[4];
+INLINE void enter(int n, const uint64_t *k, const uint8_t *src, uint64_t *l, uint64_t *r) {
     for (int j = 0; j < n; j++) {
         r[j] = rol(sub(S, load(src + 8 * j) + k[j]), 62);
         l[j] = rol(sub(S, load(src + 8 * n + 8 * j) + k[n + j]), 2);
     }
     imix(n, l, r);
-    for (int i = 0; i < 16; i += 2) {
-        round_(n, k + (2 + i) * n, r, l);
-        round_(n, k + (3 + i) * n, l, r);
-    }
+}
+
+INLINE void leave(int n, const uint64_t *k, uint64_t *l, uint64_t *r, uint8_t *dst) {
     imix(n, r, l);
     for (int j = 0; j < n; j++) {
         store(dst + 8 * j, sub(SI, rol(l[j], 2)) - k[18 * n + j]);
         store(dst + 8 * n + 8 * j, sub(SI, rol(r[j], 62)) - k[19 * n + j]);
     }
+}
+
+INLINE void block(int n, int wide, const uint64_t *k, const uint8_t *src, uint8_t *dst) {
+    uint64_t l[4], r[4];
+    enter(n, k, src, l, r);
+    for (int i = 0; i < 16; i += 2) {
+        round_(n, wide, k + (2 + i) * n, r, l);
+        round_(n, wide, k + (3 + i) * n, l, r);
+    }
+    leave(n, k, l, r, dst);
+}
+
+/* two blocks, round by round in turn */
+INLINE void two_blocks(int n, int wide, const uint64_t *k, const uint8_t *src, uint8_t *dst) {
+    uint64_t l[4], r[4], l2[4], r2[4];
+    enter(n, k, src, l, r);
+    enter(n, k, src + 16 * n, l2, r2);
+    for (int i = 0; i < 16; i += 2) {
+        round_(n, wide, k + (2 + i) * n, r, l);
+        round_(n, wide, k + (2 + i) * n, r2, l2);
+        round_(n, wide, k + (3 + i) * n, l, r);
+        round_(n, wide, k + (3 + i) * n, l2, r2);
+    }
+    leave(n, k, l, r, dst);
+    leave(n, k, l2, r2, dst + 16 * n);
 }
 
 void lab_schedule(int n, const uint64_t *w, int back, uint64_t *k) {
@@ -64,37 +101,40 @@ void lab_schedule(int n, const uint64_t *w, int back, uint64_t *k) {
         for (int j = 0; j < n; j++) k[i * n + j] = w[order[i] * n + j];
 }
 
-void lab_blocks(int n, const uint64_t *k, const uint8_t *src, uint8_t *dst, size_t blocks) {
-    size_t i;
-    switch (n) {
-    case 1: for (i = 0; i < blocks; i++) block(1, k, src + 16 * i, dst + 16 * i); break;
-    case 2: for (i = 0; i < blocks; i++) block(2, k, src + 32 * i, dst + 32 * i); break;
-    case 4: for (i = 0; i < blocks; i++) block(4, k, src + 64 * i, dst + 64 * i); break;
-    }
+INLINE void xor_bytes(int count, uint8_t *dst, const uint8_t *a, const uint8_t *b) {
+    for (int i = 0; i < count; i += 8) store(dst + i, load(a + i) ^ load(b + i));
 }
 
-static inline __attribute__((always_inline)) void xor_block(int n, uint8_t *dst, const uint8_t *a, const uint8_t *b) {
-    for (int j = 0; j < 2 * n; j++) store(dst + 8 * j, load(a + 8 * j) ^ load(b + 8 * j));
+INLINE void each(int n, int wide, const uint64_t *k, const uint8_t *src, uint8_t *dst, size_t blocks) {
+    for (size_t i = 0; i < blocks; i++) block(n, wide, k, src + 16 * n * i, dst + 16 * n * i);
 }
 
-static inline __attribute__((always_inline)) void seal(int n, const uint64_t *k, const uint8_t *start, const uint8_t *src, uint8_t *dst, size_t blocks) {
+INLINE void seal(int n, int wide, const uint64_t *k, const uint8_t *start, const uint8_t *src, uint8_t *dst, size_t blocks) {
     uint8_t x[64];
     const uint8_t *chain = start;
     for (size_t i = 0; i < blocks; i++) {
-        xor_block(n, x, src, chain);
-        block(n, k, x, dst);
+        xor_bytes(16 * n, x, src, chain);
+        block(n, wide, k, x, dst);
         chain = dst;
         src += 16 * n;
         dst += 16 * n;
     }
 }
 
-static inline __attribute__((always_inline)) void open(int n, const uint64_t *k, const uint8_t *start, const uint8_t *src, uint8_t *dst, size_t blocks) {
-    uint8_t x[64];
+INLINE void open(int n, int wide, int pairs, const uint64_t *k, const uint8_t *start, const uint8_t *src, uint8_t *dst, size_t blocks) {
+    uint8_t x[128];
     const uint8_t *chain = start;
-    for (size_t i = 0; i < blocks; i++) {
-        block(n, k, src, x);
-        xor_block(n, dst, x, chain);
+    for (; pairs && blocks >= 2; blocks -= 2) {
+        two_blocks(n, wide, k, src, x);
+        xor_bytes(16 * n, dst, x, chain);
+        xor_bytes(16 * n, dst + 16 * n, x + 16 * n, src);
+        chain = src + 16 * n;
+        src += 32 * n;
+        dst += 32 * n;
+    }
+    for (; blocks > 0; blocks--) {
+        block(n, wide, k, src, x);
+        xor_bytes(16 * n, dst, x, chain);
         chain = src;
         src += 16 * n;
         dst += 16 * n;
@@ -106,27 +146,55 @@ static inline void step(uint8_t *c, size_t size) {
     while (size > 0 && ++c[--size] == 0) {}
 }
 
-static inline __attribute__((always_inline)) void count(int n, const uint64_t *k, const uint8_t *start, const uint8_t *src, uint8_t *dst, size_t blocks) {
-    uint8_t c[64], x[64];
-    memcpy(c, start, 16 * (size_t)n);
-    for (size_t i = 0; i < blocks; i++) {
-        block(n, k, c, x);
-        xor_block(n, dst, src, x);
-        step(c, 16 * (size_t)n);
+INLINE void count(int n, int wide, int pairs, const uint64_t *k, const uint8_t *start, const uint8_t *src, uint8_t *dst, size_t blocks) {
+    uint8_t c[128], x[128];
+    const size_t size = 16 * (size_t)n;
+    memcpy(c, start, size);
+    for (; pairs && blocks >= 2; blocks -= 2) {
+        memcpy(c + size, c, size);
+        step(c + size, size);
+        two_blocks(n, wide, k, c, x);
+        xor_bytes(32 * n, dst, src, x);
+        memcpy(c, c + size, size);
+        step(c, size);
+        src += 32 * n;
+        dst += 32 * n;
+    }
+    for (; blocks > 0; blocks--) {
+        block(n, wide, k, c, x);
+        xor_bytes(16 * n, dst, src, x);
+        step(c, size);
         src += 16 * n;
         dst += 16 * n;
     }
 }
 
-#define RUN(name, one) \
-    void name(int n, const uint64_t *k, const uint8_t *start, const uint8_t *src, uint8_t *dst, size_t blocks) { \
-        switch (n) { \
-        case 1: one(1, k, start, src, dst, blocks); break; \
-        case 2: one(2, k, start, src, dst, blocks); break; \
-        case 4: one(4, k, start, src, dst, blocks); break; \
+/* each size and shape by itself */
+typedef void run(enum lab_kind kind, const uint64_t *k, const uint8_t *start, const uint8_t *src, uint8_t *dst, size_t blocks);
+
+#define MAKE(name, n, wide, pairs) \
+    static void name(enum lab_kind kind, const uint64_t *k, const uint8_t *start, const uint8_t *src, uint8_t *dst, size_t blocks) { \
+        switch (kind) { \
+        case LAB_ENCIPHER: \
+        case LAB_DECIPHER: each(n, wide, k, src, dst, blocks); break; \
+        case LAB_CBC_SEAL: seal(n, wide, k, start, src, dst, blocks); break; \
+        case LAB_CBC_OPEN: open(n, wide, pairs, k, start, src, dst, blocks); break; \
+        case LAB_CTR: count(n, wide, pairs, k, start, src, dst, blocks); break; \
         } \
     }
+#define MAKE_SIZES(name, wide, pairs) MAKE(name##_1, 1, wide, pairs) MAKE(name##_2, 2, wide, pairs) MAKE(name##_4, 4, wide, pairs)
 
-RUN(lab_cbc_seal, seal)
-RUN(lab_cbc_open, open)
-RUN(lab_ctr, count)
+MAKE_SIZES(one, 0, 0)
+MAKE_SIZES(eight, 1, 0)
+MAKE_SIZES(one_pairs, 0, 1)
+MAKE_SIZES(eight_pairs, 1, 1)
+
+void lab_run(enum lab_shape shape, enum lab_kind kind, int n, const uint64_t *k, const uint8_t *start, const uint8_t *src, uint8_t *dst, size_t blocks) {
+    static run *const RUNS[4][3] = {
+        [LAB_ONE] = {one_1, one_2, one_4},
+        [LAB_EIGHT] = {eight_1, eight_2, eight_4},
+        [LAB_ONE_PAIRS] = {one_pairs_1, one_pairs_2, one_pairs_4},
+        [LAB_EIGHT_PAIRS] = {eight_pairs_1, eight_pairs_2, eight_pairs_4},
+    };
+    RUNS[shape][n / 2](kind, k, start, src, dst, blocks);
+}

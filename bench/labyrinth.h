@@ -1,11 +1,14 @@
 #include <stddef.h>
 #include <stdint.h>
 
+/* by one table or by eight, a block at a time or, opening CBC and in CTR, two side by side */
+enum lab_shape { LAB_ONE, LAB_EIGHT, LAB_ONE_PAIRS, LAB_EIGHT_PAIRS };
+/* many blocks, each by itself, either way; runs from a start block: CBC, and CTR with offset 0 */
+enum lab_kind { LAB_ENCIPHER, LAB_DECIPHER, LAB_CBC_SEAL, LAB_CBC_OPEN, LAB_CTR };
+
+/* makes the eight tables; call it once, before all else */
+void lab_init(void);
 /* the schedule of 20 half-blocks (at most 80 words) of a working key, for enciphering or, with back, for deciphering */
 void lab_schedule(int n, const uint64_t *w, int back, uint64_t *k);
-/* many blocks, each by itself */
-void lab_blocks(int n, const uint64_t *k, const uint8_t *src, uint8_t *dst, size_t blocks);
-/* runs of whole blocks from a start block: CBC, and CTR with offset 0 */
-void lab_cbc_seal(int n, const uint64_t *k, const uint8_t *start, const uint8_t *src, uint8_t *dst, size_t blocks);
-void lab_cbc_open(int n, const uint64_t *k, const uint8_t *start, const uint8_t *src, uint8_t *dst, size_t blocks);
-void lab_ctr(int n, const uint64_t *k, const uint8_t *start, const uint8_t *src, uint8_t *dst, size_t blocks);
+/* whole blocks; n is 1, 2 or 4 */
+void lab_run(enum lab_shape shape, enum lab_kind kind, int n, const uint64_t *k, const uint8_t *start, const uint8_t *src, uint8_t *dst, size_t blocks);

@@ -39,6 +39,7 @@ tests/tapes.py || fail "the tapes"
 # ---- the library as C, Rust and people see it
 make -s lib >"$work/lib" 2>&1 || { tail -n 20 "$work/lib"; fail "make lib"; }
 tests/c_interface.sh || fail "the C interface"
+tests/compare_c.py --short || fail "the comparison through the C interface"
 if cargo --version >/dev/null 2>&1; then
     tests/rust.sh || fail "the Rust crate and the command"
 else

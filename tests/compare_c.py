@@ -1,0 +1,399 @@
+#!/usr/bin/env python3
+"""Asks our library, through its C interface, and the archivists' program for the same things and compares every byte and every number;
+docs/COMPARE.md has the lines that they speak. Needs target/dist (make lib) and gcc.
+
+    tests/compare_c.py [--short] [--seed NUMBER] [--archivist COMMAND] [--show CASE]
+
+The cases are made from the seed, which is printed; without one it is another each time. Which number is expected is decided here, from
+document 01 (number_of); which bytes, by the archivists' program, or, after a refusal, by what the destination held. Then it shows that
+changed answers are noticed. --show prints the request of one case and asks nothing."""
+import argparse
+import collections
+import os
+import random
+import shlex
+import subprocess
+import sys
+import tempfile
+import time
+
+HERE = os.path.dirname(os.path.abspath(__file__))
+DIST = os.path.join(os.path.dirname(HERE), "target", "dist")
+ADAPTER = f"{shlex.quote(sys.executable)} {shlex.quote(os.path.join(HERE, 'archivists_lines.py'))}"
+LIMIT = 1500  # seconds for a program
+
+BLOCKS, CBC, CTR = ("encipher", "decipher"), ("cbc_seal", "cbc_open"), ("ctr",)
+OPERATIONS = BLOCKS + CBC + CTR
+SIZES = [(n, l) for n in (1, 2, 4) for l in (2, 3, 4)]
+LARGE = 2**64 - 1  # SIZE_MAX
+# some are legal once cut to 8, 16 or 32 bits, or give a legal 8n or 16n modulo 2^64
+DEMANDED = (0, 3, 8, 2**32 + 1, LARGE)
+WRONG_N = (*DEMANDED, 5, 6, 7, 16, 2**8 + 1, 2**16 + 2, 2**32, 2**32 + 2, 2**32 + 4, 2**60 + 1, 2**61 + 2, 2**63 + 4, LARGE - 3)
+WRONG_L = (*(x for x in DEMANDED if x != 3), 1, 5, 6, 2**8 + 2, 2**16 + 3, 2**32 + 2, 2**32 + 3, 2**60 + 2, 2**61 + 3, 2**63 + 4)
+# document 01: mixing 0x1, 0x100 and eight bytes 01
+MIXED = {0x1: 0x0C0F1F0A0F030101, 0x100: 0x0F1F0A0F0301010C, 0x0101010101010101: 0x1A1A1A1A1A1A1A1A}
+
+Case = collections.namedtuple("Case", "op n l key start q source destination")
+Mix = collections.namedtuple("Mix", "op word")
+
+
+def number_of(case):
+    """Document 01, 'Operations and what they turn away': expansion's numbers, then the operation's own, the first that applies."""
+    if case.n not in (1, 2, 4):
+        return 1
+    if case.l not in (2, 3, 4):
+        return 2
+    if len(case.key) != 8 * case.n * case.l:
+        return 3
+    block = 16 * case.n
+    if case.op in ("encipher", "decipher"):
+        if len(case.source) != block:
+            return 4
+        return 5 if len(case.destination) != block else 0
+    if len(case.start) != block:
+        return 6
+    if case.op != "ctr" and len(case.source) % block:
+        return 4
+    return 5 if len(case.destination) != len(case.source) else 0
+
+
+# ---- the cases
+
+
+class Maker:
+    def __init__(self, seed, short):
+        self.rng, self.short = random.Random(seed), short
+
+    def pick(self, *values):
+        return values[self.rng.randrange(len(values))]
+
+    def some(self, long, short):
+        return range(short if self.short else long)
+
+    def data(self, length):
+        """Mostly random; else all bytes alike, or one bit set."""
+        kind = self.rng.randrange(12)
+        if kind == 0:
+            return bytes([self.pick(0, 0xFF, 0x01, 0x80)]) * length
+        if kind == 1 and length:
+            return (1 << self.rng.randrange(8 * length)).to_bytes(length, "big")
+        return self.rng.randbytes(length)
+
+    def start(self, op, length):
+        """For CTR also start blocks from which the counter carries far."""
+        kind = self.rng.randrange(8)
+        if op != "ctr" or kind > 4:
+            return self.data(length)
+        if kind == 0:
+            return b"\xff" * length
+        if kind == 1:
+            return (256**length - 1 - self.rng.randrange(20)).to_bytes(length, "big") if length > 1 else self.data(length)
+        ones = min(length, self.pick(1, 2, 4, 8, 12, length // 2))
+        return self.rng.randbytes(length - ones) + b"\xff" * ones
+
+    def q(self):
+        return self.pick(0, 1, 2, 255, 2**32 - 1, 2**32, 2**63, LARGE - 1, LARGE, self.rng.randrange(1000), self.rng.getrandbits(64))
+
+    def wrong(self, right):
+        """Another length."""
+        lengths = [right - 1, right + 1, 0, right // 2, 2 * right, right - 8, right + 8, right + 16, right + 256, self.rng.randrange(300)]
+        return self.pick(*(x for x in lengths if x >= 0 and x != right))
+
+    def case(self, op, n, l, source, damage=(), n_lengths=None, l_lengths=None):
+        """A case whose lengths are right for n and l, or for n_lengths and l_lengths, apart from what is damaged."""
+        m, c = n_lengths or n, l_lengths or l
+        key, start = 8 * m * c, 0 if op in BLOCKS else 16 * m
+        if "key" in damage:
+            key = self.wrong(key)
+        if "start" in damage:
+            start = self.wrong(start)
+        if "source" in damage:
+            source = self.wrong(source) if op in BLOCKS else source + self.rng.randrange(1, 16 * m)
+        destination = 16 * m if op in BLOCKS else source
+        if "destination" in damage:
+            destination = self.wrong(destination)
+        q = self.q() if op in CTR else 0
+        return Case(op, n, l, self.data(key), self.start(op, start), q, self.data(source), self.data(destination))
+
+    def length(self, op, n, most):
+        """A source's length that op admits."""
+        if op in BLOCKS:
+            return 16 * n
+        return 16 * n * self.rng.randrange(most + 1) if op in CBC else self.rng.randrange(16 * n * most + 1)
+
+    def damaged(self):
+        """Every set of damages at every size; the empty set is a valid case."""
+        for op in OPERATIONS:
+            parts = ["n", "l", "key", "destination"] + ["start"] * (op not in BLOCKS) + ["source"] * (op not in CTR)
+            for n, l in SIZES:
+                for which in range(2 ** len(parts)):
+                    damage = [part for i, part in enumerate(parts) if which >> i & 1]
+                    given = self.pick(*WRONG_N) if "n" in damage else n, self.pick(*WRONG_L) if "l" in damage else l
+                    yield self.case(op, *given, self.length(op, n, 4), damage, n, l)
+
+    def numbers(self):
+        """Every wrong n with every l, and every wrong l: all lengths fit a size that such a number may be mistaken for."""
+        for op in OPERATIONS:
+            for n in (1, 2, 4, *WRONG_N):
+                for l in (2, 3, 4, *WRONG_L):
+                    if n in WRONG_N or l in WRONG_L:
+                        m = n if n <= 16 else n % 16 if n % 16 in (1, 2, 4) else self.pick(1, 2, 4)
+                        c = l if l <= 8 else l % 8 if l % 8 in (2, 3, 4) else self.pick(2, 3, 4)
+                        yield self.case(op, n, l, self.length(op, m, 3), (), m, c)
+
+    def far_lengths(self):
+        """One length too long by 65,536."""
+        for op in OPERATIONS:
+            for part in ("key", "start", "source", "destination"):
+                n, l = self.pick(*SIZES)
+                good = self.case(op, n, l, self.length(op, n, 3))
+                yield good._replace(**{part: getattr(good, part) + bytes(65536)})
+
+    def valid(self):
+        for op in OPERATIONS:
+            for n, l in SIZES:
+                for _ in self.some(150, 12):
+                    yield self.case(op, n, l, self.length(op, n, 20))
+
+    def near(self):
+        """Runs about 8 KiB long, where a program may change its way of working; and the empty run, one byte, one block and its neighbours."""
+        for op in CBC + CTR:
+            for n, l in SIZES:
+                block = 16 * n
+                long = [8192 - block, 8192, 8192 + block] + [8191, 8193, 8192 + block - 1] * (op == "ctr")
+                for length in [8192, 8192 + block] if self.short else long:
+                    yield self.case(op, n, l, length)
+                for length in [0, block, 2 * block] + [1, block - 1, block + 1, 2 * block + 1] * (op == "ctr"):
+                    yield self.case(op, n, l, length)
+
+    def long(self):
+        for op in CBC + CTR:
+            for n, l in SIZES:
+                for _ in self.some(1, 0):
+                    yield self.case(op, n, l, self.length(op, n, 32768 // (16 * n)))
+            for n in (1, 2, 4) if not self.short else ():
+                yield self.case(op, n, self.pick(2, 3, 4), 2**18 - 16 * n * self.rng.randrange(9) + self.rng.randrange(16) * (op == "ctr"))
+
+    def anyhow(self):
+        """Any damage at all."""
+        for _ in self.some(1500, 150):
+            op, (n, l) = self.pick(*OPERATIONS), self.pick(*SIZES)
+            damage = [part for part in ("key", "start", "source", "destination") if self.rng.randrange(6) == 0]
+            if op in BLOCKS:
+                damage = [part for part in damage if part != "start"]
+            given = self.pick(n, n, n, n, n, n, *WRONG_N[:5], self.rng.getrandbits(64)), self.pick(l, l, l, l, l, l, *DEMANDED, self.rng.getrandbits(64))
+            yield self.case(op, *given, self.length(op, n, 6), damage, n, l)
+
+    def words(self):
+        for word in [*MIXED, 0, LARGE, *(1 << i for i in range(64)), *(self.rng.getrandbits(64) for _ in self.some(1000, 150))]:
+            yield Mix("mix", word)
+
+    def all(self):
+        for series in (self.damaged, self.numbers, self.far_lengths, self.valid, self.near, self.long, self.anyhow, self.words):
+            yield from series()
+
+
+def request(case):
+    if case.op == "mix":
+        return f"mix {case.word:016x}\n"
+    fields = [case.op, case.n, case.l, case.key]
+    if case.op not in BLOCKS:
+        fields.append(case.start)
+    if case.op in CTR:
+        fields.append(case.q)
+    fields += [case.source, case.destination]
+    return " ".join((field.hex() or "-") if isinstance(field, bytes) else str(field) for field in fields) + "\n"
+
+
+def gaps(cases, numbers):
+    """What the cases should have and lack."""
+    have = {(case.op, case.n, case.l, number) for case, number in zip(cases, numbers) if case.op != "mix"}
+    need = set()
+    for op in OPERATIONS:
+        own = {4, 5} if op in BLOCKS else {6, 5} if op in CTR else {6, 4, 5}
+        need |= {(op, n, l, number) for n, l in SIZES for number in {0, 3} | own}
+        need |= {(op, n, l, 2) for n in (1, 2, 4) for l in DEMANDED if l != 3}
+        need |= {(op, n, l, 1) for n in DEMANDED for l in (2, 3, 4)}
+    return sorted(need - have)
+
+
+# ---- asking
+
+
+def ask(command, parts, place, name):
+    """Runs the command once for each part, all at once; a part is a list of requests. Their answers, a list of lines each."""
+    running, answers = [], []
+    try:
+        for i, part in enumerate(parts):
+            paths = [os.path.join(place, f"{name}{i}.{kind}") for kind in ("requests", "answers")]
+            with open(paths[0], "w") as file:
+                file.writelines(part)
+            with open(paths[0]) as given, open(paths[1], "w") as made:
+                running.append((subprocess.Popen(shlex.split(command), stdin=given, stdout=made), paths[1], part))
+        for process, path, part in running:
+            status = process.wait(LIMIT)
+            with open(path) as file:
+                lines = file.read().split("\n")
+            if lines.pop() != "" or status != 0 or len(lines) != len(part):
+                sys.exit(f"compare_c: FAILED: {name}: status {status}, {len(lines)} answers to {len(part)} requests")
+            answers.append(lines)
+    except (OSError, ValueError, subprocess.TimeoutExpired) as fault:
+        sys.exit(f"compare_c: FAILED: {name}: {fault}")
+    finally:
+        for process, _, _ in running:
+            if process.poll() is None:
+                process.kill()
+                process.wait()
+    return answers
+
+
+def ask_ours(requests, place):
+    program, library = os.path.join(place, "labyrinth_lines"), os.path.join(DIST, "liblabyrinth.a")
+    build = ["gcc", "-std=c11", "-O2", "-Wall", "-Wextra", "-Werror", "-I", DIST, "-o", program, os.path.join(HERE, "labyrinth_lines.c"), library]
+    if not os.path.exists(library):
+        sys.exit("compare_c: FAILED: no target/dist/liblabyrinth.a: make lib")
+    if subprocess.run(build).returncode:
+        sys.exit("compare_c: FAILED: labyrinth_lines.c was not built")
+    return ask(shlex.quote(program), [requests], place, "ours")[0]
+
+
+def ask_theirs(command, cases, requests, admitted, place):
+    """The answers by the case's number. The requests are dealt out, the long ones first, so that all processes have as much to do."""
+    def cost(i):
+        case = cases[i]
+        return 1 if case.op == "mix" else 1 + len(case.source) // (16 * case.n) * (2 if case.n == 4 else 1)
+
+    count = os.cpu_count() or 1
+    parts, costs = [[] for _ in range(count)], [0] * count
+    for i in sorted(admitted, key=cost, reverse=True):
+        least = costs.index(min(costs))
+        parts[least].append(i)
+        costs[least] += cost(i)
+    answers = ask(command, [[requests[i] for i in part] for part in parts], place, "theirs")
+    return {i: line for part, lines in zip(parts, answers) for i, line in zip(part, lines)}
+
+
+# ---- comparing
+
+
+def read(line):
+    """Number and bytes of an answer, or None."""
+    fields = line.split(" ")
+    try:
+        return (int(fields[0]), b"" if fields[1] == "-" else bytes.fromhex(fields[1])) if len(fields) == 2 else None
+    except ValueError:
+        return None
+
+
+def difference(case, number, ours, theirs):
+    """What is wrong with the answers to a case, or None."""
+    if case.op == "mix":
+        try:
+            values = [int(ours, 16), int(theirs, 16), MIXED.get(case.word, int(theirs, 16))]
+        except ValueError:
+            return f"no words: {ours[:80]!r}, {theirs[:80]!r}"
+        return None if len(set(values)) == 1 else f"ours {ours}, theirs {theirs}"
+    mine = read(ours)
+    if mine is None:
+        return f"ours answers {ours[:80]!r}"
+    if mine[0] != number:
+        return f"ours gives the number {mine[0]}, document 01 {number}"
+    want = case.destination
+    if number == 0:
+        other = read(theirs)
+        if other is None or other[0] != 0 or len(other[1]) != len(case.destination):
+            return f"theirs answers {theirs[:80]!r}"
+        want = other[1]
+    if mine[1] == want:
+        return None
+    at = next((i for i, (found, byte) in enumerate(zip(mine[1], want)) if found != byte), min(len(mine[1]), len(want)))
+    return f"from byte {at} ours has {mine[1][at:at + 8].hex()}, not {want[at:at + 8].hex()}"
+
+
+def differences(cases, numbers, ours, theirs):
+    found = ((i, difference(case, numbers[i], ours[i], theirs.get(i, ""))) for i, case in enumerate(cases))
+    return {i: text for i, text in found if text}
+
+
+def changed_byte(line, rng):
+    number, data = read(line)
+    at = rng.randrange(len(data))
+    return f"{number} {(data[:at] + bytes([data[at] ^ 1 << rng.randrange(8)]) + data[at + 1:]).hex()}"
+
+
+def changed_word(line, rng):
+    return f"{int(line, 16) ^ 1 << rng.randrange(64):016x}"
+
+
+def changed_answers(cases, numbers, ours, theirs, rng):
+    """Changes one thing in each of some answers, no two of one case: those cases must differ then, and no others. How many were changed,
+    and what is wrong."""
+    ours, theirs, changed = list(ours), dict(theirs), {}
+
+    def change(name, i, side, line):
+        side[i], changed[i] = line, name
+
+    for op in OPERATIONS:
+        those = [i for i, case in enumerate(cases) if case.op == op and case.destination]
+        i = iter(rng.sample([i for i in those if numbers[i] == 0], 5))
+        for side, name in ((theirs, "theirs"), (ours, "ours")):
+            at = next(i)
+            change(f"a byte of {name}", at, side, changed_byte(side[at], rng))
+            at = next(i)
+            change(f"a number of {name}", at, side, f"{rng.randrange(1, 7)}{side[at][1:]}")
+        at = next(i)
+        change("a byte too few of theirs", at, theirs, theirs[at][:-2] if len(theirs[at]) > 4 else "0 -")
+        i = iter(rng.sample([i for i in those if numbers[i]], 3))
+        at = next(i)
+        change("another refusal of ours", at, ours, f"{numbers[at] % 6 + 1}{ours[at][1:]}")
+        at = next(i)
+        change("a refusal of ours called done", at, ours, f"0{ours[at][1:]}")
+        at = next(i)
+        change("a byte of a refused destination of ours", at, ours, changed_byte(ours[at], rng))
+    i = iter(rng.sample([i for i, case in enumerate(cases) if case.op == "mix"], 2))
+    for side, name in ((theirs, "theirs"), (ours, "ours")):
+        at = next(i)
+        change(f"a word of {name}", at, side, changed_word(side[at], rng))
+    found = differences(cases, numbers, ours, theirs)
+    wrong = [f"not noticed in case {i}: {name}" for i, name in changed.items() if i not in found]
+    return len(changed), wrong + [f"differs without a change: case {i}" for i in found if i not in changed]
+
+
+def main():
+    parser = argparse.ArgumentParser(description=__doc__, formatter_class=argparse.RawDescriptionHelpFormatter)
+    parser.add_argument("--short", action="store_true")
+    parser.add_argument("--seed", type=int)
+    parser.add_argument("--archivist", default=ADAPTER)
+    parser.add_argument("--show", type=int)
+    chosen = parser.parse_args()
+    seed = int.from_bytes(os.urandom(6), "big") if chosen.seed is None else chosen.seed
+    began = time.monotonic()
+    cases = list(Maker(seed, chosen.short).all())
+    if chosen.show is not None:
+        print(request(cases[chosen.show]), end="")
+        return
+    print(f"compare_c: seed {seed}{', short' if chosen.short else ''}", flush=True)
+    numbers = [0 if case.op == "mix" else number_of(case) for case in cases]
+    requests = [request(case) for case in cases]
+    admitted = [i for i, number in enumerate(numbers) if number == 0]
+    failures = [f"no case of {gap}" for gap in gaps(cases, numbers)]
+    if len(cases) < (1000 if chosen.short else 10000):
+        failures.append(f"only {len(cases)} cases")
+    with tempfile.TemporaryDirectory() as place:
+        ours = ask_ours(requests, place)
+        theirs = ask_theirs(chosen.archivist, cases, requests, admitted, place)
+    found = differences(cases, numbers, ours, theirs)
+    failures += [f"case {i}: {requests[i][:100].strip()}..: {text}" for i, text in found.items()]
+    changed, wrong = (0, []) if found else changed_answers(cases, numbers, ours, theirs, random.Random(seed))
+    failures += wrong
+    for failure in failures[:20]:
+        print(f"compare_c: FAILED: {failure}")
+    length = sum(len(cases[i].source) for i in admitted if cases[i].op != "mix")
+    print(
+        f"compare_c: seed {seed}: {len(cases)} cases, {len(admitted)} admitted ({length} bytes) and {len(cases) - len(admitted)} refused; "
+        f"{len(found)} differ; {changed - len(wrong)} of {changed} changed answers noticed; {time.monotonic() - began:.0f} s"
+    )
+    sys.exit(1 if failures else 0)
+
+
+main()

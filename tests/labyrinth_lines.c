@@ -1,0 +1,141 @@
+/* Answers the requests of docs/COMPARE.md with the library, a line for a line. Every buffer stands between two margins, at all eight
+   alignments in turn; a buffer of no bytes is NULL in every other request. If a function wrote to a margin or to a buffer that isn't
+   its destination, this ends with status 1. */
+#define _POSIX_C_SOURCE 200809L
+#include <stdarg.h>
+#include <stdint.h>
+#include <stdio.h>
+#include <stdlib.h>
+#include <string.h>
+#include "labyrinth.h"
+
+_Static_assert(sizeof(size_t) == 8, "requests hold n and l of 64 bits");
+
+enum { MARGIN = 64, MARK = 0xC3, FIELDS = 8 };
+
+static unsigned long request;
+
+static _Noreturn void stop(const char *format, ...) {
+    va_list rest;
+    fflush(stdout);
+    fprintf(stderr, "labyrinth_lines: request %lu: ", request);
+    va_start(rest, format);
+    vfprintf(stderr, format, rest);
+    va_end(rest);
+    fputc('\n', stderr);
+    exit(1);
+}
+
+static unsigned digit(char c) {
+    if (c >= '0' && c <= '9') return (unsigned)(c - '0');
+    if (c >= 'a' && c <= 'f') return (unsigned)(c - 'a') + 10;
+    stop("'%c' is no digit", c);
+}
+
+static uint8_t byte_of(const char *hex, size_t i) { return (uint8_t)(digit(hex[2 * i]) << 4 | digit(hex[2 * i + 1])); }
+
+static uint64_t number(const char *text) {
+    char *end;
+    uint64_t value = strtoull(text, &end, 10);
+    if (*text < '0' || *text > '9' || *end) stop("'%s' is no number", text);
+    return value;
+}
+
+struct lent {
+    const char *hex;
+    uint8_t *room, *bytes, *pointer;
+    size_t length, size;
+};
+
+static struct lent lend(const char *hex) {
+    struct lent b = {.hex = hex};
+    size_t digits = strcmp(hex, "-") == 0 ? 0 : strlen(hex);
+    if (digits % 2) stop("half a byte");
+    b.length = digits / 2;
+    b.size = b.length + 2 * MARGIN + 8;
+    b.room = malloc(b.size);
+    if (!b.room) stop("no memory");
+    memset(b.room, MARK, b.size);
+    b.bytes = b.room + MARGIN + request % 8;
+    for (size_t i = 0; i < b.length; i++) b.bytes[i] = byte_of(hex, i);
+    b.pointer = b.length == 0 && request % 2 == 0 ? NULL : b.bytes;
+    return b;
+}
+
+/* Takes a buffer back; its margins must be as they were, and, unless it was a destination, its bytes. */
+static void take_back(struct lent b, int destination) {
+    for (uint8_t *p = b.room; p < b.room + b.size; p++)
+        if ((p < b.bytes || p >= b.bytes + b.length) && *p != MARK) stop("a byte was written beside a buffer");
+    if (!destination)
+        for (size_t i = 0; i < b.length; i++)
+            if (b.bytes[i] != byte_of(b.hex, i)) stop("a byte was written to a buffer that was lent for reading");
+    free(b.room);
+}
+
+static void answer(unsigned number, struct lent dst) {
+    static const char DIGITS[] = "0123456789abcdef";
+    printf("%u ", number);
+    if (dst.length == 0) putchar('-');
+    for (size_t i = 0; i < dst.length; i++) {
+        putchar(DIGITS[dst.bytes[i] >> 4]);
+        putchar(DIGITS[dst.bytes[i] & 15]);
+    }
+    putchar('\n');
+}
+
+static void mix(const char *word) {
+    uint64_t w = 0;
+    if (strlen(word) != 16) stop("a word has 16 digits");
+    for (int i = 0; i < 16; i++) w = w << 4 | digit(word[i]);
+    printf("%016llx\n", (unsigned long long)labyrinth_mix(w));
+}
+
+/* fields: the operation, n, l, key, then source and destination */
+static void one_block(char **fields) {
+    size_t n = number(fields[1]), l = number(fields[2]);
+    struct lent key = lend(fields[3]), src = lend(fields[4]), dst = lend(fields[5]);
+    uint8_t r = strcmp(fields[0], "encipher") == 0
+        ? labyrinth_encipher(n, l, key.pointer, key.length, src.pointer, src.length, dst.pointer, dst.length)
+        : labyrinth_decipher(n, l, key.pointer, key.length, src.pointer, src.length, dst.pointer, dst.length);
+    answer(r, dst);
+    take_back(key, 0);
+    take_back(src, 0);
+    take_back(dst, 1);
+}
+
+/* fields: the operation, n, l, key, start, for CTR q, then source and destination */
+static void run(char **fields, int is_ctr) {
+    size_t n = number(fields[1]), l = number(fields[2]);
+    struct lent key = lend(fields[3]), start = lend(fields[4]), src = lend(fields[5 + is_ctr]), dst = lend(fields[6 + is_ctr]);
+    uint8_t r;
+    if (is_ctr)
+        r = labyrinth_ctr(n, l, key.pointer, key.length, start.pointer, start.length, number(fields[5]), src.pointer, src.length, dst.pointer, dst.length);
+    else if (strcmp(fields[0], "cbc_seal") == 0)
+        r = labyrinth_cbc_seal(n, l, key.pointer, key.length, start.pointer, start.length, src.pointer, src.length, dst.pointer, dst.length);
+    else
+        r = labyrinth_cbc_open(n, l, key.pointer, key.length, start.pointer, start.length, src.pointer, src.length, dst.pointer, dst.length);
+    answer(r, dst);
+    take_back(key, 0);
+    take_back(start, 0);
+    take_back(src, 0);
+    take_back(dst, 1);
+}
+
+int main(void) {
+    char *line = NULL;
+    size_t room = 0;
+    while (getline(&line, &room, stdin) > 0) {
+        char *fields[FIELDS + 1];
+        int count = 0;
+        request++;
+        for (char *f = strtok(line, " \n"); f && count <= FIELDS; f = strtok(NULL, " \n")) fields[count++] = f;
+        if (count == 2 && strcmp(fields[0], "mix") == 0) mix(fields[1]);
+        else if (count == 6 && (strcmp(fields[0], "encipher") == 0 || strcmp(fields[0], "decipher") == 0)) one_block(fields);
+        else if (count == 7 && (strcmp(fields[0], "cbc_seal") == 0 || strcmp(fields[0], "cbc_open") == 0)) run(fields, 0);
+        else if (count == 8 && strcmp(fields[0], "ctr") == 0) run(fields, 1);
+        else stop("no operation with %d fields", count);
+    }
+    free(line);
+    if (ferror(stdin) || fflush(stdout) != 0) stop("a read or a write failed");
+    return 0;
+}
