@@ -269,15 +269,24 @@ def cbc_vectors():
         yield from byte_lines("sealed", modes.cbc_encrypt(lab.Labyrinth(n, key), start, plain))
 
 
-def ctr_vectors():
-    """Start blocks whose counters carry: n = 1 at once past all FF, n = 2 over 9 bytes, n = 4 by a large q over 8."""
-    runs = (
-        (1, 3, b"\xff" * 16, 1, 37),
-        (2, 4, bytes_of("ctr start 2", 23) + b"\xff" * 8 + b"\xfe", 1, 69),
-        (4, 2, bytes_of("ctr start 4", 64), 2**64 - 1, 133),
-    )
-    for at, (n, l, start, q, length) in enumerate(runs):
-        key, plain = bytes_of(f"ctr key {n}", 8 * n * l), page(length)
+# n, l, key, start, q and length. Start blocks whose counters carry: n = 1 at once past all FF, n = 2 over 9 bytes, n = 4 by a large q over 8.
+CTR_RUNS = (
+    (1, 3, bytes_of("ctr key 1", 24), b"\xff" * 16, 1, 37),
+    (2, 4, bytes_of("ctr key 2", 64), bytes_of("ctr start 2", 23) + b"\xff" * 8 + b"\xfe", 1, 69),
+    (4, 2, bytes_of("ctr key 4", 64), bytes_of("ctr start 4", 64), 2**64 - 1, 133),
+)
+# q = 0 and whole blocks; past 128 bits at n = 2; past 256 at n = 4, less than a block; past all bits at n = 4.
+CARRY_RUNS = (
+    (1, 2, bytes_of("carry key 1", 16), bytes_of("carry start 1", 16), 0, 32),
+    (2, 2, bytes_of("carry key 2", 32), bytes_of("carry start 2", 15) + b"\xff" * 16 + b"\xfe", 1, 37),
+    (4, 3, bytes_of("carry key 3", 96), bytes_of("carry start 3", 31) + b"\xff" * 33, 1, 41),
+    (4, 4, bytes_of("carry key 4", 128), b"\xff" * 64, 1, 16),
+)
+
+
+def ctr_vectors(runs):
+    for at, (n, l, key, start, q, length) in enumerate(runs):
+        plain = page(length)
         cipher = lab.Labyrinth(n, key)
         if at:
             yield ""
@@ -290,6 +299,16 @@ def ctr_vectors():
             counter = ((int.from_bytes(start, "big") + q + i) % 2 ** (128 * n)).to_bytes(16 * n, "big")
             yield from byte_lines(f"count-{i}", counter)
         yield from byte_lines("sealed", modes.ctr_crypt(cipher, start, q, plain))
+
+
+def card():
+    """A card as one is written, without check sums, and its sealed page."""
+    n, l, length = 1, 2, TEXT.index(".") + 1
+    key, start = bytes_of("card key", 8 * n * l), bytes_of("card start", 16 * n)
+    sealed = modes.ctr_crypt(lab.Labyrinth(n, key), start, 0, page(length))
+    digits = lambda data: " ".join(data[i : i + 4].hex().upper() for i in range(0, len(data), 4))
+    yield from (f"n        {n}", f"l        {l}", f"key      {digits(key)}", "mode     CTR", f"start    {digits(start)}", "q        0", f"length   {length}", "")
+    yield from (f"sealed   {digits(sealed[at : at + 16])}" for at in range(0, length, 16))
 
 
 # ---- wrong readings: the archivists' program with a function exchanged, and put back
@@ -436,6 +455,51 @@ def wrong_readings():
         yield f"{number:>2}   {words} {'opens' if opens else 'lost'}"
 
 
+def wrong_counters():
+    """Wrong readings of CTR, on each run of 11.4 and 11.5."""
+    def stream(cipher, order, modulus, start, q, length, block):
+        number, out, i = int.from_bytes(start, order), b"", 0
+        while len(out) < length:
+            fixed = number - number % modulus
+            out += block((fixed + (number + q + i) % modulus).to_bytes(len(start), order))
+            i += 1
+        return out[:length]
+
+    def up(c, start, q, length):
+        return stream(c, "little", 2 ** (8 * len(start)), start, q, length, c.encrypt_block)
+
+    def short(c, start, q, length):
+        return stream(c, "big", 2**128, start, q, length, c.encrypt_block)
+
+    def cut(c, start, q, length):
+        whole = 2 ** (8 * len(start))
+        parts = ((int.from_bytes(start, "big") + (q + i) % 2**64) % whole for i in range(-(-length // len(start))))
+        return b"".join(c.encrypt_block(part.to_bytes(len(start), "big")) for part in parts)[:length]
+
+    def no_offset(c, start, q, length):
+        return modes.ctr_crypt(c, start, 0, bytes(length))
+
+    def in_bytes(c, start, q, length):
+        blocks, skip = divmod(q, len(start))
+        return modes.ctr_crypt(c, start, blocks, bytes(skip + length))[skip:]
+
+    def by_u(c, start, q, length):
+        return stream(c, "big", 2 ** (8 * len(start)), start, q, length, c.decrypt_block)
+
+    first = len(list(wrong_readings())) + 1
+    for number, reading in enumerate((up, short, cut, no_offset, in_bytes, by_u), first):
+        words = []
+        for n, l, key, start, q, length in (*CTR_RUNS, *CARRY_RUNS):
+            cipher = lab.Labyrinth(n, key)
+            got, wanted = reading(cipher, start, q, length), modes.ctr_crypt(cipher, start, q, bytes(length))
+            words.append("same" if got == wanted else "differs")
+            if reading is up and (q == 0) != (got[: 16 * n] == wanted[: 16 * n]) and start != b"\xff" * 16 * n:
+                raise SystemExit("make_paper_values.py: another first block by the counter carried up")
+        if "differs" not in words:
+            raise SystemExit(f"make_paper_values.py: no run shows wrong reading {number}")
+        yield f"{number}   " + " ".join(f"{word:<8}" for word in words).rstrip()
+
+
 def values():
     traced = {n: (found(n, l, name)) for n, (l, name) in TRACED.items()}
     out = {
@@ -450,8 +514,11 @@ def values():
         "vectors-counting": block_vectors("key-inc/block-inc"),
         "vectors-mixed": block_vectors("random-1"),
         "vectors-cbc": cbc_vectors(),
-        "vectors-ctr": ctr_vectors(),
+        "vectors-ctr": ctr_vectors(CTR_RUNS),
+        "vectors-ctr-carry": ctr_vectors(CARRY_RUNS),
+        "card": card(),
         "wrong-readings": wrong_readings(),
+        "wrong-readings-ctr": wrong_counters(),
     }
     for n in (2, 4):
         key, block, _ = traced[n]

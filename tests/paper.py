@@ -24,7 +24,7 @@ FENCE = re.compile(r"^```([a-z0-9-]+)\n(.*?)^```$", re.M | re.S)
 BYTE_LINE = re.compile(r"^(\S+) +((?:[0-9A-F]{2}){1,4}(?: (?:[0-9A-F]{2}){1,4}){0,3}) +: ([0-9A-F]{4})$")
 WORD_CELL = re.compile(r"^(\S+) +(0x[0-9A-F]{16}(?: 0x[0-9A-F]{16})?)$")
 SIZES = [(n, l) for n in (1, 2, 4) for l in (2, 3, 4)]
-READ = {"blocks": 21, "byte strings": 96, "half-blocks": 396, "block vectors": 18, "CBC runs": 3, "CTR runs": 3, "traced blocks": 3}
+READ = {"blocks": 24, "byte strings": 118, "half-blocks": 396, "block vectors": 18, "CBC runs": 3, "CTR runs": 7, "traced blocks": 3}
 
 
 class Fault(Exception):
@@ -215,9 +215,20 @@ def small_values(text):
             same(f"ours: {line}", [LIBRARY.labyrinth_mix(ctypes.c_uint64(given[0]))], result)
 
 
-def wrong_readings(text, made=[]):
-    made or made.extend(make_paper_values.wrong_readings())
-    same("the wrong readings", text.splitlines(), made)
+@functools.lru_cache(maxsize=None)
+def made(name):
+    return list(getattr(make_paper_values, name)())
+
+
+def wrong_readings(text):
+    same("the wrong readings", text.splitlines(), made("wrong_readings"))
+
+
+def wrong_counters(text):
+    lines = text.splitlines()
+    same("the wrong readings of CTR", lines, made("wrong_counters"))
+    for line in lines:
+        same(f"a run that shows it: {line}", "differs" in line, True)
 
 
 # ---- traces
@@ -381,6 +392,7 @@ def cbc(text):
         same("the lengths", (len(key), len(start), len(plain) % (16 * n), len(sealed)), (8 * n * l, 16 * n, 0, len(plain)))
         same("theirs, sealed", sealed.hex(), their("cbc_encrypt", n, key, start, plain).hex())
         same("theirs, opened", plain.hex(), their("cbc_decrypt", n, key, start, sealed).hex())
+        same("the page's text", make_paper_values.TEXT.rstrip().startswith(plain.decode("ascii")), True)
         same("ours, sealed", sealed.hex(), our("cbc_seal", n, l, key, start, plain).hex())
         same("ours, opened", plain.hex(), our("cbc_open", n, l, key, start, sealed).hex())
         same("more than one block", len(plain) > 16 * n, True)
@@ -390,7 +402,28 @@ def cbc(text):
 
 
 def ctr(text):
-    sizes = []
+    """Each page has a last block that is short."""
+    runs = ctr_runs(text)
+    same("the sizes", [n for n, *_ in runs], [1, 2, 4])
+    same("short last blocks", [length % (16 * n) > 0 and length > 16 * n for n, _, length, *_ in runs], [True] * 3)
+
+
+def ctr_carry(text):
+    """q = 0 and whole blocks; then carries past 128, 256 and all 512 bits; pages shorter than a block."""
+    runs = ctr_runs(text)
+    same("the sizes", [n for n, *_ in runs], [1, 2, 4, 4])
+    (n, q, length, start, last), *rest = runs
+    same("q = 0, whole blocks", (q, length % (16 * n), length > 16 * n), (0, 0, True))
+    for (n, _, _, start, last), bits in zip(rest, (128, 256, 512)):
+        at = 16 * n - bits // 8
+        same(f"a carry past {bits} bits", start[:at] != last[:at] or at == 0, True)
+        same("the bits below it", (start[at] == 255, any(last[at:])), (True, False))
+    same("shorter than a block", [length < 16 * n for n, _, length, *_ in rest], [False, True, True])
+
+
+def ctr_runs(text):
+    """n, q, length, start block and last counter block of each run."""
+    runs = []
     for first, *lines in records(text):
         kind, n, l, q = head(first, "n", "l", "q")
         same("the kind", kind, "ctr")
@@ -405,12 +438,28 @@ def ctr(text):
         same("the counters' key stream", bytes(a ^ b for a, b in zip(plain, stream)).hex(), sealed.hex())
         same("theirs, sealed", sealed.hex(), their("ctr_crypt", n, key, start, q, plain).hex())
         same("theirs, opened", plain.hex(), their("ctr_crypt", n, key, start, q, sealed).hex())
+        same("the page's text", make_paper_values.TEXT.rstrip().startswith(plain.decode("ascii")), True)
         same("ours, sealed", sealed.hex(), our("ctr", n, l, key, start, plain, q=q).hex())
         same("ours, opened", plain.hex(), our("ctr", n, l, key, start, sealed, q=q).hex())
-        same("a short last block", len(plain) % (16 * n) > 0 and len(plain) > 16 * n, True)
-        sizes.append(n)
-    same("the sizes", sizes, [1, 2, 4])
-    COUNTED["CTR runs"] += len(sizes)
+        runs.append((n, q, len(plain), start, counters[-1][1]))
+    COUNTED["CTR runs"] += len(runs)
+    return runs
+
+
+def card(text):
+    """The card, and that its page opens to the sentence in the text."""
+    front, back = records(text)
+    said = dict(line.split(maxsplit=1) for line in front)
+    same("what the card says", list(said), ["n", "l", "key", "mode", "start", "q", "length"])
+    n, l, q, length = (int(said[name]) for name in ("n", "l", "q", "length"))
+    key, start = bytes.fromhex(said["key"]), bytes.fromhex(said["start"])
+    same("the names", {line.split()[0] for line in back}, {"sealed"})
+    sealed = bytes.fromhex("".join(line.split(maxsplit=1)[1] for line in back))
+    same("the mode and the lengths", (said["mode"], len(key), len(start), len(sealed)), ("CTR", 8 * n * l, 16 * n, length))
+    plain = make_paper_values.TEXT[:length].encode("ascii")
+    same("a sentence", plain.index(b".") + 1, length)
+    same("theirs, opened", their("ctr_crypt", n, key, start, q, sealed), plain)
+    same("ours, opened", our("ctr", n, l, key, start, sealed, q=q), plain)
 
 
 # in the order in which they are checked: a trace's later blocks know the key and the block of its first ones
@@ -433,7 +482,10 @@ CHECKS = {
     "vectors-mixed": blocks_of(False),
     "vectors-cbc": cbc,
     "vectors-ctr": ctr,
+    "vectors-ctr-carry": ctr_carry,
+    "card": card,
     "wrong-readings": wrong_readings,
+    "wrong-readings-ctr": wrong_counters,
 }
 
 
@@ -447,18 +499,25 @@ def sentences():
         ("deciphering, U", *lab.working_key_decipher(list(range(8)))),
     ):
         yield f"| {name} | high k_{a}, low k_{b} | {' '.join(f'k_{j}' for j in keys)} | high k_{c}, low k_{d} |"
-    yield "With g_0 to g_7 = " + " ".join(f"{g:02X}" for g in lab.G) + ", byte i"
-    yield "g(x) = " + " + ".join(f"{lab.G[i]:02X}" + ("", " x", f" x^{i}")[min(i, 2)] for i in range(7, -1, -1)) + ","
+    yield "With g_0 to g_7 = `" + " ".join(f"{g:02X}" for g in lab.G) + "`, byte i"
+    yield "g(x) = " + " + ".join(f"`{lab.G[i]:02X}`" + ("", " x", f" x^{i}")[min(i, 2)] for i in range(7, -1, -1)) + ","
     powers = [k for k in range(8, -1, -1) if lab.F_MBN >> k & 1]
     yield "the polynomial " + " + ".join({0: "1", 1: "x"}.get(k, f"x^{k}") for k in powers) + f", written 0x{lab.F_MBN:X}"
-    yield "all bytes " + ", ".join(f"{lab.XC[t] & 255:02X} for t = {t}" for t in range(4))
+    yield "all bytes " + ", ".join(f"`{lab.XC[t] & 255:02X}` for t = {t}" for t in range(4))
     yield f"add 0x{make_paper_values.ADDED:016X} modulo 2^64, then XOR 0x{make_paper_values.XORED:016X}"
-    yield f"S(53) stands in line 50, column 03, and is {lab.S[0x53]:02X}"
-    yield "each byte multiplied by 46"
+    yield f"S(`53`) stands in line `50`, column `03`, and is `{lab.S[0x53]:02X}`"
+    yield "each byte multiplied by `46`"
+    yield "mixing eight times multiplies every byte by `46`"
     yield f"the bytes `{' '.join(f'{i:02X}' for i in range(8))}` are the word 0x{lab.bytes_to_word(list(range(8))):016X}"
-    yield f"the line `01 02 03` has the check sum 1 + 4 + 9 = 14, written {sum(i * i for i in (1, 2, 3)):04X}"
-    readings = len(list(make_paper_values.wrong_readings()))
-    yield f"\n{readings}. FT adds its key.\n\n"
+    yield f"the line `01 02 03` has the check sum 1 + 4 + 9 = 14, written `{sum(i * i for i in (1, 2, 3)):04X}`"
+    yield "\n\n1. The sum of the products is rotated"
+    yield f"\n{len(made('wrong_readings'))}. FT adds its key.\n\n"
+    yield f"\n\n{len(made('wrong_readings')) + 1}. The counter is carried from byte 0 up"
+    yield f"\n{len(made('wrong_readings')) + len(made('wrong_counters'))}. U is used in place of E.\n\n"
+    text = make_paper_values.TEXT
+    yield f'as ASCII: "{text[: text.index(".") + 1]}"\n'
+    yield f"the sealed page of {text.index('.') + 1} bytes"
+    yield f'without line ends: "{text.rstrip()}"\n'
     yield f"It never passes 0x{255 * sum(range(1, 17)):04X}."
     by = {}
     for n, l in SIZES:
@@ -549,4 +608,5 @@ def main():
     sys.exit(1 if failures or not tried else 0)
 
 
-main()
+if __name__ == "__main__":
+    main()
