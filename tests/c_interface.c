@@ -562,6 +562,20 @@ static void notice(int as_it_should, const char *what, const char *where)
     if (!as_it_should) wrong("a stub that %s %s is not told as it should be", what, where);
 }
 
+/* Whether the calls on lent memory and the numbers both find fault with the stubs; what they find is neither counted nor printed. */
+static int both_notice(uint64_t seed, int cases)
+{
+    long kept = failures;
+    quiet = 1;
+    int died = memory(stubs, seed, cases, PLACE_ANY);
+    failures = 0;
+    numbers(stubs);
+    int found = died == -1 && failures > 0;
+    failures = kept;
+    quiet = 0;
+    return found;
+}
+
 static void try_stubs(uint64_t seed)
 {
     enum { CASES = 200 };
@@ -582,24 +596,10 @@ static void try_stubs(uint64_t seed)
         for (int place = PLACE_END; b != DST && place <= PLACE_START; place++)
             notice(memory(stubs, seed, CASES, place) == SIGSEGV, "writes to", buffer_names[b]);
     }
-    quiet = 1;
     stub.what = TOUCHES;
-    int died = memory(stubs, seed, CASES, PLACE_ANY);
-    failures = 0;
-    numbers(stubs);
-    found = failures;
-    failures = kept;
-    quiet = 0;
-    notice(died == -1 && found > 0, "touches the destination", "on refusal");
-    quiet = 1;
+    notice(both_notice(seed, CASES), "touches the destination", "on refusal");
     stub.what = SWAPS;
-    died = memory(stubs, seed, CASES * 5, PLACE_ANY);
-    failures = 0;
-    numbers(stubs);
-    found = failures;
-    failures = kept;
-    quiet = 0;
-    notice(died == -1 && found > 0, "exchanges 4 and 5", "");
+    notice(both_notice(seed, CASES * 5), "exchanges 4 and 5", "");
     quiet = 1;
     stub.what = DEEP;
     failures = 0;

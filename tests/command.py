@@ -85,13 +85,17 @@ class Place:
                 raise Wrong(f"{what}: the message lacks '{says}': {message}")
             if any(KEY[i : i + 6] in message.lower() for i in range(len(KEY) - 5)):
                 raise Wrong(f"{what}: the message shows the key")
-            if self.names() != before:
-                raise Wrong(f"{what}: left {self.names()} where {before} were")
-            if old is not None and self.read("out") != old:
-                raise Wrong(f"{what}: OUT was altered")
-            if old is not None:
-                os.remove(self.at("out"))
+            self.untouched(what, before, old)
         self.count += 1
+
+    def untouched(self, what, before, old):
+        """The files are those from before, and an old OUT, which goes now, is as it was."""
+        if self.names() != before:
+            raise Wrong(f"{what}: left {self.names()} where {before} were")
+        if old is not None:
+            if self.read("out") != old:
+                raise Wrong(f"{what}: OUT was altered")
+            os.remove(self.at("out"))
 
     def works(self, what, words, expected, out="out", **more):
         done = self.run(words, **more)
@@ -340,12 +344,7 @@ def ended(place):
             if number == signal.SIGKILL:
                 for name in parts(place):
                     os.remove(place.at(name))
-            if place.names() != before:
-                raise Wrong(f"{number.name}: left {place.names()} where {before} were")
-            if old is not None and place.read("out") != old:
-                raise Wrong(f"{number.name}: OUT was altered")
-            if old is not None:
-                os.remove(place.at("out"))
+            place.untouched(number.name, before, old)
             place.count += 1
     # as nohup starts it
     process = begun(place, preexec_fn=lambda: signal.signal(signal.SIGHUP, signal.SIG_IGN))

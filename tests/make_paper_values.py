@@ -257,15 +257,20 @@ def page(length):
     return (TEXT * (length // len(TEXT) + 1)).encode("ascii")[:length]
 
 
+def run_given(at, head, key, start, plain):
+    """The head and what is given of run number at, an empty line before all but the first."""
+    if at:
+        yield ""
+    yield head
+    yield from byte_lines("key", key)
+    yield from byte_lines("start", start)
+    yield from byte_lines("plain", plain)
+
+
 def cbc_vectors():
     for at, (n, l, count) in enumerate(((1, 4, 3), (2, 2, 2), (4, 3, 2))):
         key, start, plain = bytes_of(f"cbc key {n}", 8 * n * l), bytes_of(f"cbc start {n}", 16 * n), page(16 * n * count)
-        if at:
-            yield ""
-        yield f"cbc n {n} l {l}"
-        yield from byte_lines("key", key)
-        yield from byte_lines("start", start)
-        yield from byte_lines("plain", plain)
+        yield from run_given(at, f"cbc n {n} l {l}", key, start, plain)
         yield from byte_lines("sealed", modes.cbc_encrypt(lab.Labyrinth(n, key), start, plain))
 
 
@@ -288,12 +293,7 @@ def ctr_vectors(runs):
     for at, (n, l, key, start, q, length) in enumerate(runs):
         plain = page(length)
         cipher = lab.Labyrinth(n, key)
-        if at:
-            yield ""
-        yield f"ctr n {n} l {l} q {q}"
-        yield from byte_lines("key", key)
-        yield from byte_lines("start", start)
-        yield from byte_lines("plain", plain)
+        yield from run_given(at, f"ctr n {n} l {l} q {q}", key, start, plain)
         blocks = (length + 16 * n - 1) // (16 * n)
         for i in range(blocks):
             counter = ((int.from_bytes(start, "big") + q + i) % 2 ** (128 * n)).to_bytes(16 * n, "big")

@@ -6,9 +6,8 @@ use mathlib.Core.List.{List}
 use Prim.Native.Nat.{ℕ, _+_, _≤_, _<_}
 use lib.Dec.{leb}
 use lib.ListN.{length, getD}
-use Rattle.field.specs.Lists.{tabulate, pick}
+use Rattle.field.specs.Lists.{tabulate, pick, when}
 use Rattle.field.specs.Words.{byte, join}
-use Rattle.labyrinth.specs.Working.{choose}
 use Rattle.labyrinth.proofs.Buffers.{put}
 use Rattle.buffers.specs.Words.{inside, wordAt, withWord}
 use borrow.Author.Tests.{le-leb, leb-true, leb-false, lt-leb}
@@ -27,7 +26,7 @@ unfolding wordAt pick
 word-at s at h = rw (has-room at (length s) h)
 
 pub with-word : (at w : ℕ) (d : List ℕ) → at + 8 ≤ length d → withWord at w d ≡ put at 8 (tabulate 8 (byte w)) d
-unfolding withWord choose
+unfolding withWord
 with-word at w d h = rw (has-room at (length d) h)
 
 -- and where they have none
@@ -40,5 +39,5 @@ unfolding wordAt pick
 word-none s at e = rw e
 
 pub with-none : (at w : ℕ) (d : List ℕ) → inside at (length d) ≡ false → d ≡ withWord at w d
-unfolding withWord choose
+unfolding withWord
 with-none at w d e = rw e

@@ -6,9 +6,8 @@ use mathlib.Core.Bool.{Bool}
 use mathlib.Core.List.{List, _++_}
 use lib.Dec.{leb}
 use lib.ListN.{getD, length, take, drop}
-use Rattle.field.specs.Lists.{tabulate, pick}
+use Rattle.field.specs.Lists.{tabulate, pick, when}
 use Rattle.field.specs.Words.{byte, join}
-use Rattle.labyrinth.specs.Working.{choose}
 
 -- a word has room at a place of a buffer of so many bytes
 unfoldable pub inside : ℕ → ℕ → Bool
@@ -20,4 +19,4 @@ wordAt s at = pick (inside at (length s)) (join 8 (λ b. getD s (at + b) 0))
 
 -- the buffer with a word put there; as it was where the word has no room
 unfoldable pub withWord : ℕ → ℕ → List ℕ → List ℕ
-withWord at w d = choose (inside at (length d)) (take at d ++ (tabulate 8 (byte w) ++ drop (at + 8) d)) d
+withWord at w d = when (inside at (length d)) (take at d ++ (tabulate 8 (byte w) ++ drop (at + 8) d)) d

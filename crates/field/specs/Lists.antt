@@ -15,6 +15,11 @@ unfoldable pub xorSum : ℕ → (ℕ → ℕ) → ℕ
 xorSum zero f = 0
 xorSum (suc n) f = bitXor (xorSum n f) (f n)
 
+-- x where the test holds, else y
+abbrev pub when : {A : Type 0} → Bool → A → A → A
+when true x y = x
+when false x y = y
+
 -- x where the test holds, else 0
 unfoldable pub pick : Bool → ℕ → ℕ
 pick true x = x

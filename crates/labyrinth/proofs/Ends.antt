@@ -11,7 +11,7 @@ use lib.Dec.{T, eqb}
 use lib.Bits.{bitXor}
 use lib.ListN.{length, getD, take, drop, set, drop-of-length-le}
 use lib.Seq.{getD-drop, getD-take}
-use Rattle.field.specs.Lists.{tabulate}
+use Rattle.field.specs.Lists.{tabulate, when}
 use Rattle.field.specs.Words.{join, rotl, rotr, eachByte}
 use Rattle.field.proofs.Tests.{at}
 use Rattle.field.proofs.Lists.{length-tabulate, getD-tabulate, tabulate-cong, tabulated}
@@ -22,7 +22,7 @@ use Rattle.labyrinth.specs.declared.Halves.{Halves}
 use Rattle.labyrinth.specs.Cipher.{sigma, IMix, IT, FT}
 use Rattle.labyrinth.specs.Keys.{half}
 use Rattle.labyrinth.specs.Refusals.{legal}
-use Rattle.labyrinth.specs.Working.{Size, wordsFrom, choose, room, held, blockIn}
+use Rattle.labyrinth.specs.Working.{Size, wordsFrom, room, held, blockIn}
 use Rattle.labyrinth.proofs.Room.{getD-room, take-room}
 use Rattle.labyrinth.proofs.Buffers.{put, put-put}
 use Rattle.labyrinth.proofs.Refusals.{legal-size-of}
@@ -172,10 +172,8 @@ is-four s a b = omega arith
 pub fits-is : (n k : ℕ) {r : Bool} → r ≡ (legal n && eqb k (16 * n)) → r ≡ true → Size n × (k ≡ 16 * n)
 fits-is n k e t = let b = and-both (legal n) (eqb k (16 * n)) (sym e ∙ t) in (legal-size-of n (b .0), eqb-true k (16 * n) (b .1))
 
-pub chosen : {A : Type 0} {r b : Bool} (x y : A) → r ≡ b → r ≡ true → x ≡ choose b x y
-unfolding choose
+pub chosen : {A : Type 0} {r b : Bool} (x y : A) → r ≡ b → r ≡ true → x ≡ when b x y
 chosen x y e t = rw (sym e ∙ t)
 
-pub spared : {A : Type 0} {r b : Bool} (x y : A) → r ≡ b → r ≡ false → y ≡ choose b x y
-unfolding choose
+pub spared : {A : Type 0} {r b : Bool} (x y : A) → r ≡ b → r ≡ false → y ≡ when b x y
 spared x y e t = rw (sym e ∙ t)

@@ -10,7 +10,7 @@ use native.Mathlib.Omega.{arith}
 use lib.Bits.{bitXor, xor-comm}
 use lib.ListN.{length, getD, take, drop, set, replicate, length-append, List·getD-append}
 use lib.Seq.{set-at, append-snoc}
-use Rattle.field.specs.Lists.{tabulate, xorSum}
+use Rattle.field.specs.Lists.{tabulate, xorSum, when}
 use Rattle.field.specs.Words.{join, rotl}
 use Rattle.field.proofs.Lists.{length-tabulate, getD-tabulate, tabulate-cong, tabulated}
 use Rattle.field.proofs.Sums.{xorSum-cong}
@@ -19,7 +19,7 @@ use Rattle.labyrinth.specs.Cipher.{F}
 use Rattle.labyrinth.specs.Keys.{half, register, delta, grow, expandedWords}
 use Rattle.labyrinth.specs.declared.Expanded.{Expanded}
 use Rattle.labyrinth.specs.Refusals.{legal, padded, expansion}
-use Rattle.labyrinth.specs.Working.{Size, choose, room}
+use Rattle.labyrinth.specs.Working.{Size, room}
 use Rattle.labyrinth.proofs.Sizes.{sizes, legal-size}
 use Rattle.labyrinth.proofs.Room.{taken}
 use Rattle.labyrinth.proofs.Blocks.{length-zip, length-words, getD-words}
@@ -149,13 +149,12 @@ delta-taken n g h e = taken n _ h e
 
 pub grown-step : (SM : ℕ → ℕ) (n l j : ℕ) (g w total : List ℕ) {g′ a b y w′ : List ℕ} → Size n → Grown SM n l j (take n g) w total → j < 8
     → g′ ≡ room (delta n (take n g)) → a ≡ room (half n w (j - l)) → b ≡ room (half n w (j - 1))
-    → y ≡ choose (legal n) (zip n bitXor (take n a) (F SM n (take n g′) (take n b)) ++ drop n b) b
+    → y ≡ when (legal n) (zip n bitXor (take n a) (F SM n (take n g′) (take n b)) ++ drop n b) b
     → ((ks : List ℕ) → length ks ≡ j * n → w ≡ padded ks → w′ ≡ padded (ks ++ tabulate n (λ i. getD y i 0)))
     → Grown SM n l (j + 1) (take n g′) w′ total
-unfolding choose
 grown-step SM n l j g w total {g′} {a} {b} {y} s p h eg ea eb ey ew =
     let z : List ℕ = zip n bitXor (take n a) (F SM n (take n g′) (take n b)) in
-    let ey′ : y ≡ z ++ drop n b = ey ∙ ap (λ (t : Bool). choose t (z ++ drop n b) b) (legal-size n s) in
+    let ey′ : y ≡ z ++ drop n b = ey ∙ ap (λ (t : Bool). when t (z ++ drop n b) b) (legal-size n s) in
     grown-more SM n l j (take n g) w total p h (delta-taken n (take n g) (s .top) eg)
     (ap (λ (x : List ℕ). tabulate n (λ i. getD x i 0)) ey′ ∙ front n z (drop n b) (length-zip n bitXor (take n a) (F SM n (take n g′) (take n b)))
     ∙ ap₂ (λ (u v : List ℕ). zip n bitXor u (F SM n (take n g′) v)) (half-taken n w (j - l) (s .top) ea) (half-taken n w (j - 1) (s .top) eb)

@@ -11,6 +11,7 @@ use lib.Bits.{bitXor}
 use lib.Dec.{eqb}
 use lib.ListN.{length, take, drop}
 use lib.Seq.{take-at}
+use Rattle.field.specs.Lists.{when}
 use Rattle.field.specs.Substitution.{invert}
 use Rattle.field.specs.Mixing.{matrix}
 use Rattle.field.specs.Merged.{merged}
@@ -20,7 +21,7 @@ use Rattle.labyrinth.specs.Blocks.{Block, load, store}
 use Rattle.labyrinth.specs.Cipher.{Parts, article, IMix, IT, FT, round, rounds, exchange, EF}
 use Rattle.labyrinth.specs.Keys.{half, E, U}
 use Rattle.labyrinth.specs.Refusals.{unless, legal, blockRefusal, outcome}
-use Rattle.labyrinth.specs.Working.{Size, choose, held, blockIn, laid, fits, schedule, line, lineBytes, spread, lendable, tableParts, matrixParts, lentRefusal, way}
+use Rattle.labyrinth.specs.Working.{Size, held, blockIn, laid, fits, schedule, line, lineBytes, spread, lendable, tableParts, matrixParts, lentRefusal, way}
 use Rattle.labyrinth.proofs.Sizes.{legal-size}
 use Rattle.labyrinth.proofs.Blocks.{length-zip, pair, Bytes, Small}
 use Rattle.labyrinth.proofs.Undo.{U-E, E-U}
@@ -90,14 +91,14 @@ fits-taken n buffer s e = rw (legal-size n s, eq-eqb (length buffer) (16 * n) e)
 
 -- IT from the source, the rounds, the exchange and FT to the destination are the line
 pub phases : (p : Parts) (n : ℕ) (ks src dst : List ℕ) (b : Bool) {h h′ h″ : Halves} {d : List ℕ} → Block-taken n (length src) (length dst) → b ≡ true
-    → h ≡ held (choose (fits n src) (IT (p .S) n (half n ks 1, half n ks 0) (load n src)) ([], []))
-    → h′ ≡ choose b (laid n (rounds (p .SM) n (λ i. half n ks (i + 2)) 16 (blockIn n h)) h) h
+    → h ≡ held (when (fits n src) (IT (p .S) n (half n ks 1, half n ks 0) (load n src)) ([], []))
+    → h′ ≡ when b (laid n (rounds (p .SM) n (λ i. half n ks (i + 2)) 16 (blockIn n h)) h) h
     → h″ ≡ record { high = h′ .low; low = h′ .high }
-    → d ≡ choose (fits n dst) (store n (FT (p .S⁻¹) n (half n ks 19, half n ks 18) (blockIn n h″))) dst
+    → d ≡ when (fits n dst) (store n (FT (p .S⁻¹) n (half n ks 19, half n ks 18) (blockIn n h″))) dst
     → d ≡ lineBytes p n ks src
-unfolding choose lineBytes line EF blockIn
+unfolding lineBytes line EF blockIn
 phases p n ks src dst b {h} {h′} {h″} {d} t eb e₁ e₂ e₃ e₄ =
-    e₄ ∙ ap (λ (b : Bool). choose b (store n (FT (p .S⁻¹) n (half n ks 19, half n ks 18) (blockIn n h″))) dst) (fits-taken n dst (t .size) (t .destination))
+    e₄ ∙ ap (λ (b : Bool). when b (store n (FT (p .S⁻¹) n (half n ks 19, half n ks 18) (blockIn n h″))) dst) (fits-taken n dst (t .size) (t .destination))
     ∙ ap (λ (z : Block). store n (FT (p .S⁻¹) n (half n ks 19, half n ks 18) z)) (ap (blockIn n) e₃ ∙ ap exchange after)
   where
     first : Block
@@ -105,7 +106,7 @@ phases p n ks src dst b {h} {h′} {h″} {d} t eb e₁ e₂ e₃ e₄ =
 
     entered : blockIn n h ≡ first
     entered =
-        ap (blockIn n) (e₁ ∙ ap (λ (b : Bool). held (choose b first ([], []))) (fits-taken n src (t .size) (t .source)))
+        ap (blockIn n) (e₁ ∙ ap (λ (b : Bool). held (when b first ([], []))) (fits-taken n src (t .size) (t .source)))
         ∙ blockIn-held n first (t .size .top) (length-IT (p .S) n (half n ks 1, half n ks 0) (load n src))
 
     sixteen : Block → Block
@@ -113,7 +114,7 @@ phases p n ks src dst b {h} {h′} {h″} {d} t eb e₁ e₂ e₃ e₄ =
 
     after : blockIn n h′ ≡ sixteen first
     after =
-        ap (blockIn n) (e₂ ∙ ap (λ (b : Bool). choose b (laid n (sixteen (blockIn n h)) h) h) eb ∙ ap (λ (z : Block). laid n (sixteen z) h) entered)
+        ap (blockIn n) (e₂ ∙ ap (λ (b : Bool). when b (laid n (sixteen (blockIn n h)) h) h) eb ∙ ap (λ (z : Block). laid n (sixteen z) h) entered)
         ∙ blockIn-laid n (sixteen first) h (length-rounds (p .SM) n (λ i. half n ks (i + 2)) 16 first (length-IT (p .S) n (half n ks 1, half n ks 0) (load n src)))
 
 -- ---- with what the tables hand out

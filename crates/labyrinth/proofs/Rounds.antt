@@ -11,7 +11,7 @@ use borrow.Author.Tests.{ne-eqb}
 use lib.Bits.{bitXor}
 use lib.ListN.{length, getD, take, drop, set, length-append, length-drop, take-append-drop}
 use lib.Seq.{take-at, drop-at, drop-cons, set-at, getD-at, getD-take, length-take-le}
-use Rattle.field.specs.Lists.{tabulate}
+use Rattle.field.specs.Lists.{tabulate, when}
 use Rattle.field.specs.Published.{constants}
 use Rattle.field.proofs.Lists.{length-tabulate, getD-tabulate, tabulate-cong, tabulated}
 use Rattle.field.proofs.Xor.{xors}
@@ -20,7 +20,7 @@ use Rattle.labyrinth.specs.Blocks.{Block, plus, zip}
 use Rattle.labyrinth.specs.Cipher.{P, SL, F, round, rounds}
 use Rattle.labyrinth.specs.Keys.{half}
 use Rattle.labyrinth.specs.Refusals.{legal}
-use Rattle.labyrinth.specs.Working.{Size, wordsFrom, choose, blockIn, laid, both, onBlock, lendable, wide, tableWords, lookupIn}
+use Rattle.labyrinth.specs.Working.{Size, wordsFrom, blockIn, laid, both, onBlock, lendable, wide, tableWords, lookupIn}
 use Rattle.labyrinth.proofs.Sizes.{sizes, legal-size, illegal}
 use Rattle.labyrinth.proofs.Blocks.{length-zip, getD-zip}
 use Rattle.labyrinth.proofs.Permutation.{P-take}
@@ -230,31 +230,29 @@ module _ (SM : ℕ → ℕ) (n : ℕ) (size : Size n) (ks : List ℕ) (h₀ : Ha
 
 -- ---- what is answered by n
 
-pub choose-legal : {A : Type 0} (n : ℕ) → Size n → (x y : A) → choose (legal n) x y ≡ x
-unfolding choose
-choose-legal n s x y = rw (legal-size n s)
+pub when-legal : {A : Type 0} (n : ℕ) → Size n → (x y : A) → when (legal n) x y ≡ x
+when-legal n s x y = rw (legal-size n s)
 
-pub choose-illegal : {A : Type 0} (n : ℕ) → (n ≡ 1 → ⊥) → (n ≡ 2 → ⊥) → (n ≡ 4 → ⊥) → (x y : A) → choose (legal n) x y ≡ y
-unfolding choose
-choose-illegal n a b d x y = rw (illegal n a b d)
+pub when-illegal : {A : Type 0} (n : ℕ) → (n ≡ 1 → ⊥) → (n ≡ 2 → ⊥) → (n ≡ 4 → ⊥) → (x y : A) → when (legal n) x y ≡ y
+when-illegal n a b d x y = rw (illegal n a b d)
 
 -- the right half of one iteration, its key in front of a schedule; the code's n is a literal m
 pub iterated : (SM : ℕ → ℕ) (n m : ℕ) → n ≡ m → Size m → (ks k l r : List ℕ) {x y : List ℕ} → length k ≡ 4 → take 4 ks ≡ k
-    → both x y ≡ onBlock m (round SM m (wordsFrom m 0 ks)) (both l r) → y ≡ choose (legal n) (zip n bitXor (take n l) (F SM n (take n k) (take n r)) ++ drop n r) r
+    → both x y ≡ onBlock m (round SM m (wordsFrom m 0 ks)) (both l r) → y ≡ when (legal n) (zip n bitXor (take n l) (F SM n (take n k) (take n r)) ++ drop n r) r
 unfolding onBlock laid blockIn round
 iterated SM n m e s ks k l r len front q =
     ap (λ (h : Halves). h .low) q
     ∙ ap (λ (z : List ℕ). zip m bitXor (take m l) (F SM m z (take m r)) ++ drop m r) (words-front m ks k (s .top) len front)
-    ∙ sym (choose-legal m s (zip m bitXor (take m l) (F SM m (take m k) (take m r)) ++ drop m r) r)
-    ∙ ap (λ (n : ℕ). choose (legal n) (zip n bitXor (take n l) (F SM n (take n k) (take n r)) ++ drop n r) r) (sym e)
+    ∙ sym (when-legal m s (zip m bitXor (take m l) (F SM m (take m k) (take m r)) ++ drop m r) r)
+    ∙ ap (λ (n : ℕ). when (legal n) (zip n bitXor (take n l) (F SM n (take n k) (take n r)) ++ drop n r) r) (sym e)
 
 -- the sixteen
 pub ran-legal : (SM : ℕ → ℕ) (n m : ℕ) → n ≡ m → Size m → (ks : List ℕ) (h : Halves) {x : Halves}
-    → x ≡ onBlock m (rounds SM m (λ i. half m ks (i + 2)) 16) h → x ≡ choose (legal n) (laid n (rounds SM n (λ i. half n ks (i + 2)) 16 (blockIn n h)) h) h
+    → x ≡ onBlock m (rounds SM m (λ i. half m ks (i + 2)) 16) h → x ≡ when (legal n) (laid n (rounds SM n (λ i. half n ks (i + 2)) 16 (blockIn n h)) h) h
 unfolding onBlock
 ran-legal SM n m e s ks h q =
-    q ∙ sym (choose-legal m s (laid m (rounds SM m (λ i. half m ks (i + 2)) 16 (blockIn m h)) h) h)
-    ∙ ap (λ (n : ℕ). choose (legal n) (laid n (rounds SM n (λ i. half n ks (i + 2)) 16 (blockIn n h)) h) h) (sym e)
+    q ∙ sym (when-legal m s (laid m (rounds SM m (λ i. half m ks (i + 2)) 16 (blockIn m h)) h) h)
+    ∙ ap (λ (n : ℕ). when (legal n) (laid n (rounds SM n (λ i. half n ks (i + 2)) 16 (blockIn n h)) h) h) (sym e)
 
 -- a table in its form
 form-wide : (t : List ℕ) (eight : Bool) → length t ≡ tableWords eight → wide t ≡ eight
@@ -270,23 +268,22 @@ form-lendable t true l = rw l
 -- the sixteen with a lent table, which the code takes in its form
 pub ran-lent : (t : List ℕ) (eight : Bool) (n m : ℕ) → n ≡ m → Size m → length t ≡ tableWords eight → (ks : List ℕ) (h : Halves) {x : Halves}
     → x ≡ onBlock m (rounds (lookupIn eight t) m (λ i. half m ks (i + 2)) 16) h
-    → x ≡ choose (legal n && lendable (length t)) (laid n (rounds (lookupIn (wide t) t) n (λ i. half n ks (i + 2)) 16 (blockIn n h)) h) h
+    → x ≡ when (legal n && lendable (length t)) (laid n (rounds (lookupIn (wide t) t) n (λ i. half n ks (i + 2)) 16 (blockIn n h)) h) h
 ran-lent t eight n m e s l ks h q =
     ran-legal (lookupIn eight t) n m e s ks h q
-    ∙ ap₂ (λ (b w : Bool). choose b (laid n (rounds (lookupIn w t) n (λ i. half n ks (i + 2)) 16 (blockIn n h)) h) h) (sym taken) (sym (form-wide t eight l))
+    ∙ ap₂ (λ (b w : Bool). when b (laid n (rounds (lookupIn w t) n (λ i. half n ks (i + 2)) 16 (blockIn n h)) h) h) (sym taken) (sym (form-wide t eight l))
   where
     taken : (legal n && lendable (length t)) ≡ legal n
     taken = rw (form-lendable t eight l, ap legal e ∙ legal-size m s)
 
 -- nothing is done for an illegal n, or by a table in no form
-pub unlent-size : {A : Type 0} (n k : ℕ) → (n ≡ 1 → ⊥) → (n ≡ 2 → ⊥) → (n ≡ 4 → ⊥) → (x y : A) → y ≡ choose (legal n && lendable k) x y
-unfolding choose
+pub unlent-size : {A : Type 0} (n k : ℕ) → (n ≡ 1 → ⊥) → (n ≡ 2 → ⊥) → (n ≡ 4 → ⊥) → (x y : A) → y ≡ when (legal n && lendable k) x y
 unlent-size n k a b d x y = rw (illegal n a b d)
 
-pub unlent-words : {A : Type 0} (n k : ℕ) → (k ≡ 2048 → ⊥) → (k ≡ 256 → ⊥) → (x y : A) → y ≡ choose (legal n && lendable k) x y
-unfolding lendable choose
+pub unlent-words : {A : Type 0} (n k : ℕ) → (k ≡ 2048 → ⊥) → (k ≡ 256 → ⊥) → (x y : A) → y ≡ when (legal n && lendable k) x y
+unfolding lendable
 unlent-words n k a b x y = rw (ne-eqb k 256 b, ne-eqb k 2048 a) (neither (legal n))
   where
-    neither : (l : Bool) → y ≡ choose (l && false) x y
+    neither : (l : Bool) → y ≡ when (l && false) x y
     neither true = refl
     neither false = refl

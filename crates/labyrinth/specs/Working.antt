@@ -27,11 +27,6 @@ pub record Size (n : ℕ) : Type 0 where
 unfoldable pub wordsFrom : ℕ → ℕ → List ℕ → List ℕ
 wordsFrom n at ws = tabulate n (λ i. getD ws (at + i) 0)
 
--- the first where the test holds, else the second
-unfoldable pub choose : {A : Type 0} → Bool → A → A → A
-choose true x y = x
-choose false x y = y
-
 -- a list of at most four words, with zeros behind it
 unfoldable pub room : List ℕ → List ℕ
 room x = take 4 (x ++ replicate 4 0)

@@ -3,6 +3,7 @@ use labyrinth::Halves;
 ghost use mathlib.Core.Path.{_≡_};
 ghost use Prim.Native.Nat.{_+_, _≤_, _<_};
 ghost use lib.ListN.{getD, length, take};
+ghost use Rattle.field.specs.Lists.{when};
 ghost use Rattle.field.specs.Words.{eachByte};
 ghost use Rattle.field.specs.Substitution.{sub};
 ghost use Rattle.field.specs.Mixing.{mixBy};
@@ -10,7 +11,7 @@ ghost use Rattle.labyrinth.specs.Blocks.{plus, zip};
 ghost use Rattle.labyrinth.specs.Cipher.{P, round as once, rounds as iterations};
 ghost use Rattle.labyrinth.specs.Keys.{half};
 ghost use Rattle.labyrinth.specs.Refusals.{legal};
-ghost use Rattle.labyrinth.specs.Working.{Size, wordsFrom, choose, blockIn, laid};
+ghost use Rattle.labyrinth.specs.Working.{Size, wordsFrom, blockIn, laid};
 ghost use Rattle.labyrinth.specs.Working.{both, onBlock};
 
 // Word j of the permuted sum of the half-block x and the key words from a place on.
@@ -58,7 +59,7 @@ fn round(
 // The sixteen rounds by the substitution s and the matrix m, under half-blocks 2 to 17 of a schedule, on n words of each half; the
 // halves as they are for an illegal n.
 pub fn rounds(s: &[u8; 256], m: [[u8; 8]; 8], n: usize, ks: &[u64; 80], h: Halves) -> Halves
-    ensures { λ r. ⌜ r ≡ choose (legal n) (laid n (iterations (λ w. mixBy m (eachByte (sub (now (s .entry))) w)) n (λ i. half n (now (ks .entry)) (i + 2)) 16 (blockIn n h)) h) h ⌝ }
+    ensures { λ r. ⌜ r ≡ when (legal n) (laid n (iterations (λ w. mixBy m (eachByte (sub (now (s .entry))) w)) n (λ i. half n (now (ks .entry)) (i + 2)) 16 (blockIn n h)) h) h ⌝ }
 {
     let mut l = h.high;
     let mut r = h.low;

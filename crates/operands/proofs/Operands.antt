@@ -68,7 +68,4 @@ word-mapped f xs d hx hd e g p =
     p ∙ ap (λ (x : ℕ). withWord 0 x d) (g ∙ ap f (e ∙ word-at xs 0 (omega arith) ∙ join-cong 8 _ (λ b. getD xs b 0) (λ k h. ap (λ (i : ℕ). getD xs i 0) (zero-add k))))
     ∙ with-word 0 (f (join 8 (λ b. getD xs b 0))) d (omega arith)
     ∙ ap (λ (x : List ℕ). tabulate 8 (byte (f (join 8 (λ b. getD xs b 0)))) ++ x) (drop-of-length-le d {i = 0 + 8} (omega arith))
-    ∙ one f xs
-  where
-    one : (f : ℕ → ℕ) (xs : List ℕ) → tabulate 8 (byte (f (join 8 (λ i. getD xs i 0)))) ++ [] ≡ bytes 1 (each 1 f (words 1 xs))
-    one f xs = append-nil (tabulate 8 (byte (f (join 8 (λ i. getD xs i 0))))) ∙ sym (word-bytes f xs)
+    ∙ append-nil (tabulate 8 (byte (f (join 8 (λ b. getD xs b 0))))) ∙ sym (word-bytes f xs)

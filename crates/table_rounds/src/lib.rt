@@ -10,6 +10,7 @@ ghost use mathlib.Core.List.{_++_};
 ghost use Prim.Native.Nat.{_+_, _*_, _%_, _≤_, _<_};
 ghost use lib.Bits.{bitXor};
 ghost use lib.ListN.{getD, length, take, drop};
+ghost use Rattle.field.specs.Lists.{when};
 ghost use Rattle.field.specs.Words.{byte, rotl};
 ghost use Rattle.field.specs.Merged.{lookup};
 ghost use Rattle.field.specs.Published as published;
@@ -17,7 +18,7 @@ ghost use Rattle.labyrinth.specs.Blocks.{plus, zip};
 ghost use Rattle.labyrinth.specs.Cipher.{P, F, round as once, rounds as iterations};
 ghost use Rattle.labyrinth.specs.Keys.{half};
 ghost use Rattle.labyrinth.specs.Refusals.{legal};
-ghost use Rattle.labyrinth.specs.Working.{Size, wordsFrom, choose, blockIn, laid};
+ghost use Rattle.labyrinth.specs.Working.{Size, wordsFrom, blockIn, laid};
 ghost use Rattle.labyrinth.specs.Working.{both, onBlock};
 ghost use Rattle.labyrinth.specs.Working.{lendable, wide, tableWords, share, lookupIn};
 
@@ -132,7 +133,7 @@ fn rounds_of(
 // The sixteen rounds by a lent table t, under half-blocks 2 to 17 of a schedule, on n words of each half; the halves as they are
 // for an illegal n and for a table in neither form.
 pub fn rounds(t: &[u64], n: usize, ks: &[u64; 80], h: Halves) -> Halves
-    ensures { λ r. ⌜ r ≡ choose (legal n && lendable (length (now (t .entry)))) (laid n (iterations (lookupIn (wide (now (t .entry))) (now (t .entry))) n (λ i. half n (now (ks .entry)) (i + 2)) 16 (blockIn n h)) h) h ⌝ }
+    ensures { λ r. ⌜ r ≡ when (legal n && lendable (length (now (t .entry)))) (laid n (iterations (lookupIn (wide (now (t .entry))) (now (t .entry))) n (λ i. half n (now (ks .entry)) (i + 2)) 16 (blockIn n h)) h) h ⌝ }
 {
     let c = tables::constants();
     let mut l = h.high;
@@ -171,7 +172,7 @@ fn alone(k: [u64; 4]) -> [u64; 80]
 
 // The new right half of one iteration under the key k, for the expansion of a key; r as it is for an illegal n.
 pub fn iteration(t: &[u64; 256], n: usize, k: [u64; 4], l: [u64; 4], r: [u64; 4]) -> [u64; 4]
-    ensures { λ x. ⌜ x ≡ choose (legal n) (zip n bitXor (take n l) (F (lookup (now (t .entry))) n (take n k) (take n r)) ++ drop n r) r ⌝ }
+    ensures { λ x. ⌜ x ≡ when (legal n) (zip n bitXor (take n l) (F (lookup (now (t .entry))) n (take n k) (take n r)) ++ drop n r) r ⌝ }
 {
     let c = tables::constants();
     let ks = alone(k);

@@ -118,7 +118,7 @@ module _ (t : Tape) (rest : List ℕ) where
   step-zero : command (getD rest 0 0) t rest .number ≡ 0 → step t rest 65 .number ≡ 0
   unfolding step
   step-zero h =
-      when-all (λ a. a .number ≡ 0) (t .ended) (λ _. refl) (λ _. when-all (λ a. a .number ≡ 0) (eqb (length rest) 0) (λ _. refl) (λ _. h))
+      when-all (λ (a : Answer). a .number ≡ 0) (t .ended) (λ _. refl) (λ _. when-all (λ (a : Answer). a .number ≡ 0) (eqb (length rest) 0) (λ _. refl) (λ _. h))
 
   zero-back : (t .ended ≡ true) ⊎ ((length rest ≡ 0) ⊎ Obeyed t rest) → step t rest 65 .number ≡ 0
   zero-back (inl e) = ap (λ (a : Answer). a .number) (step-ended t rest 65 refl e)
@@ -170,7 +170,7 @@ module _ (t : Tape) (rest : List ℕ) where
   step-ends : command (getD rest 0 0) t rest .next .ended ≡ true → step t rest 65 .next .ended ≡ true
   unfolding step
   step-ends h =
-      when-all (λ a. a .next .ended ≡ true) (t .ended) (λ _. refl) (λ _. when-all (λ a. a .next .ended ≡ true) (eqb (length rest) 0) (λ _. refl) (λ _. h))
+      when-all (λ (a : Answer). a .next .ended ≡ true) (t .ended) (λ _. refl) (λ _. when-all (λ (a : Answer). a .next .ended ≡ true) (eqb (length rest) 0) (λ _. refl) (λ _. h))
 
 -- a step into 65 bytes leaves an ended state exactly when the state was ended or no command is left
 pub ends-iff : (t : Tape) (rest : List ℕ) → (step t rest 65 .next .ended ≡ true) ↔ ((t .ended ≡ true) ⊎ Ending rest)

@@ -6,13 +6,14 @@ use mathlib.Core.List.{List, _∷_}
 use Prim.Native.Nat.{ℕ, zero, suc, _*_}
 use lib.Dec.{eqb, ltb}
 use lib.ListN.{length, getD, take, drop}
+use Rattle.field.specs.Lists.{when}
 use Rattle.labyrinth.specs.Cipher.{article}
 use Rattle.labyrinth.specs.Keys.{E, U}
 use Rattle.labyrinth.specs.Refusals.{unless, legal}
 use Rattle.labyrinth.proofs.Agree.{SameUsed, E-used, U-used}
 use Rattle.operands.specs.Operands.{zeros}
 use Rattle.tape.specs.declared.Tape.{Tape}
-use Rattle.tape.specs.Steps.{Answer, ended, answers, ends, when, whole, judged, keyRefusal, setKey, mapRefusal, mapBlock, mixWord, command, step}
+use Rattle.tape.specs.Steps.{Answer, ended, answers, ends, whole, judged, keyRefusal, setKey, mapRefusal, mapBlock, mixWord, command, step}
 
 -- two states with the same n, the same first 8n words and the same marks
 pub record Alike (t u : Tape) : Type 0 where

@@ -9,6 +9,7 @@ use native.Mathlib.Omega.{arith}
 use borrow.Author.Tests.{eqb-true, eqb-false, ltb-true, ltb-false}
 use lib.Dec.{eqb, ltb}
 use lib.ListN.{length, getD, take, drop}
+use Rattle.field.specs.Lists.{when}
 use Rattle.field.specs.Mixing.{mix}
 use Rattle.field.specs.Published.{row}
 use Rattle.labyrinth.specs.Blocks.{each, words, bytes}
@@ -16,7 +17,7 @@ use Rattle.labyrinth.specs.Cipher.{article}
 use Rattle.labyrinth.specs.Keys.{E, U}
 use Rattle.labyrinth.specs.Refusals.{expansion}
 use Rattle.tape.specs.declared.Tape.{Tape}
-use Rattle.tape.specs.Steps.{Answer, ended, withKey, answers, refuses, ends, when, whole, judged, keyRefusal, setKey, mapRefusal, mapBlock, mixWord, command, atEnd, step}
+use Rattle.tape.specs.Steps.{Answer, ended, withKey, answers, refuses, ends, whole, judged, keyRefusal, setKey, mapRefusal, mapBlock, mixWord, command, atEnd, step}
 
 -- a known command with operands, and its width, the command byte counted
 pub data Known (c w : ℕ) : Type 0 where
@@ -57,7 +58,7 @@ pub data Way (t : Tape) (rest : List ℕ) : Answer → Type 0 where
 
 -- ---- a step goes one of them
 
-pub when-all : (P : Answer → Type 0) (b : Bool) {x y : Answer} → (b ≡ true → P x) → (b ≡ false → P y) → P (when b x y)
+pub when-all : {A : Type 0} (P : A → Type 0) (b : Bool) {x y : A} → (b ≡ true → P x) → (b ≡ false → P y) → P (when b x y)
 when-all P true f g = f refl
 when-all P false f g = g refl
 

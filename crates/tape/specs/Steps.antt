@@ -6,6 +6,7 @@ use mathlib.Core.Bool.{Bool, true, false, not}
 use mathlib.Core.List.{List, [], _∷_, _++_}
 use lib.Dec.{eqb, ltb}
 use lib.ListN.{length, getD, take, drop, replicate}
+use Rattle.field.specs.Lists.{when}
 use Rattle.field.specs.Mixing.{mix}
 use Rattle.field.specs.Published.{row}
 use Rattle.labyrinth.specs.declared.WorkingKey.{WorkingKey}
@@ -49,11 +50,6 @@ refuses next number taken = answers next number taken []
 -- an end: number 0, none written, ended
 abbrev pub ends : Tape → ℕ → Answer
 ends t taken = record { number = 0; taken = taken; written = []; next = ended t }
-
--- the first where the test holds; else what the further rules say
-abbrev pub when : {A : Type 0} → Bool → A → A → A
-when true answer further = answer
-when false answer further = further
 
 -- ---- commands: the rest begins with the command byte
 

@@ -9,9 +9,11 @@ use native.Mathlib.Omega.{arith}
 use borrow.Author.Tests.{eqb-true, eqb-false, eq-eqb, ne-eqb, ltb-true, ltb-false, lt-ltb, le-ltb}
 use lib.Dec.{eqb, ltb}
 use lib.ListN.{length, drop, length-append, length-drop}
+use Rattle.field.specs.Lists.{when}
 use Rattle.tape.specs.declared.Tape.{Tape}
-use Rattle.tape.specs.Steps.{Answer, fresh, when, step, over}
+use Rattle.tape.specs.Steps.{Answer, fresh, step, over}
 use Rattle.tape.proofs.Bounds.{step-bounded, step-moves}
+use Rattle.tape.proofs.Ways.{when-all}
 use Rattle.tape.proofs.Accepted.{Ending, ends-iff}
 use Rattle.tape.proofs.Used.{Alike, Same, step-used}
 use Rattle.tape_run.specs.declared.Answered.{Answered}
@@ -26,11 +28,6 @@ pub data Walked : Tape → List ℕ → List Answer → Type 0 where
   more : {t : Tape} {rest : List ℕ} {xs : List Answer} → t .ended ≡ false → step t rest 65 .next .ended ≡ false
       → Walked (step t rest 65 .next) (drop (step t rest 65 .taken) rest) xs → Walked t rest (step t rest 65 ∷ xs)
 
--- what a list of steps after the first is
-when-list : (P : List Answer → Type 0) (b : Bool) {xs : List Answer} → (b ≡ true → P []) → (b ≡ false → P xs) → P (when b [] xs)
-when-list P true f g = f refl
-when-list P false f g = g refl
-
 -- what is left after a step that does not end is less
 less : (k : ℕ) (t : Tape) (rest : List ℕ) → length rest < suc k → step t rest 65 .next .ended ≡ false → length (drop (step t rest 65 .taken) rest) < k
 less k t rest h e = omega (arith, length-drop (step t rest 65 .taken) rest, step-moves t rest e, step-bounded t rest 65 .within)
@@ -40,7 +37,7 @@ pub steps-walked : (k : ℕ) (t : Tape) (rest : List ℕ) → t .ended ≡ false
 unfolding steps
 steps-walked zero t rest e h = let f : ⊥ = omega arith in absurd f
 steps-walked (suc k) t rest e h =
-    when-list (λ xs. Walked t rest (step t rest 65 ∷ xs)) (step t rest 65 .next .ended) (λ z. last e z)
+    when-all (λ (xs : List Answer). Walked t rest (step t rest 65 ∷ xs)) (step t rest 65 .next .ended) (λ z. last e z)
     (λ z. more e z (steps-walked k (step t rest 65 .next) (drop (step t rest 65 .taken) rest) z (less k t rest h z)))
 
 -- a whole tape is walked: no step is missing at its end

@@ -7,9 +7,10 @@ use Prim.Native.Nat.{ℕ, zero, suc, _+_, _-_, _≤_, _<_}
 use native.Mathlib.Omega.{arith}
 use lib.ListN.{length, take, drop, length-append, length-drop, drop-of-length-le}
 use lib.Seq.{take-all, take-at, drop-at, drop-drop}
+use Rattle.field.specs.Lists.{when}
 use Rattle.tape.specs.declared.Tape.{Tape}
 use Rattle.tape.specs.declared.Stepped.{Stepped}
-use Rattle.tape.specs.Steps.{Answer, fresh, when, step, returned, over}
+use Rattle.tape.specs.Steps.{Answer, fresh, step, returned, over}
 use Rattle.tape.proofs.Cases.{from-on}
 use Rattle.tape.proofs.Bounds.{step-bounded, step-moves}
 use Rattle.tape_run.specs.Runs.{steps, tapeSteps, joined, tapeAnswers}

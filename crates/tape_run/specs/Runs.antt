@@ -5,8 +5,9 @@ use mathlib.Core.Bool.{not}
 use mathlib.Core.List.{List, [], _∷_, _++_}
 use lib.Dec.{eqb, ltb}
 use lib.ListN.{length, drop}
+use Rattle.field.specs.Lists.{when}
 use Rattle.tape.specs.declared.Tape.{Tape}
-use Rattle.tape.specs.Steps.{Answer, fresh, when, step}
+use Rattle.tape.specs.Steps.{Answer, fresh, step}
 use Rattle.tape_run.specs.declared.Answered.{Answered}
 
 -- at most k steps from a state on: each begins where the one before stopped, until one leaves an ended state

@@ -8,7 +8,7 @@ ghost use mathlib.Core.List.{[], _++_};
 ghost use Prim.Native.Nat.{_+_, _*_, _≤_, _<_};
 ghost use lib.Dec.{eqb};
 ghost use lib.ListN.{length, getD, take, drop};
-ghost use Rattle.field.specs.Lists.{tabulate};
+ghost use Rattle.field.specs.Lists.{tabulate, when};
 ghost use Rattle.field.specs.Words.{rotl, eachByte};
 ghost use Rattle.field.specs.Substitution.{sub};
 ghost use Rattle.labyrinth.specs.Blocks.{plus, minus, each, zip, words, bytes, load, store};
@@ -16,7 +16,7 @@ ghost use Rattle.labyrinth.specs.Cipher.{IMix, IT, FT};
 ghost use Rattle.labyrinth.specs.Cipher as spec;
 ghost use Rattle.labyrinth.specs.Keys.{half};
 ghost use Rattle.labyrinth.specs.Refusals.{legal};
-ghost use Rattle.labyrinth.specs.Working.{Size, wordsFrom, choose, room, held, blockIn, fits};
+ghost use Rattle.labyrinth.specs.Working.{Size, wordsFrom, room, held, blockIn, fits};
 
 // ---- IMix
 
@@ -117,7 +117,7 @@ fn fit(n: usize, k: usize) -> bool
 // IT of a block of bytes, by the substitution s, under the schedule's first two half-blocks; zeros for an illegal n or
 // another length.
 pub fn enter(s: &[u8; 256], n: usize, ks: &[u64; 80], src: &[u8]) -> Halves
-    ensures { λ h. ⌜ h ≡ held (choose (fits n (now (src .entry))) (IT (sub (now (s .entry))) n (half n (now (ks .entry)) 1, half n (now (ks .entry)) 0) (load n (now (src .entry)))) ([], [])) ⌝ }
+    ensures { λ h. ⌜ h ≡ held (when (fits n (now (src .entry))) (IT (sub (now (s .entry))) n (half n (now (ks .entry)) 1, half n (now (ks .entry)) 0) (load n (now (src .entry)))) ([], [])) ⌝ }
 {
     if fit(n, src.len()) {
         enter_any(s, n, ks, src)
@@ -191,7 +191,7 @@ fn leave_any(u: &[u8; 256], n: usize, ks: &[u64; 80], h: Halves, dst: &mut [u8])
 // FT to a block of bytes, by the inverse substitution u, under the schedule's last two half-blocks; nothing for an illegal n
 // or another length.
 pub fn leave(u: &[u8; 256], n: usize, ks: &[u64; 80], h: Halves, dst: &mut [u8])
-    ensures { λ _. ⌜ now (dst .exit) ≡ choose (fits n (now (dst .entry))) (store n (FT (sub (now (u .entry))) n (half n (now (ks .entry)) 19, half n (now (ks .entry)) 18) (blockIn n h))) (now (dst .entry)) ⌝ }
+    ensures { λ _. ⌜ now (dst .exit) ≡ when (fits n (now (dst .entry))) (store n (FT (sub (now (u .entry))) n (half n (now (ks .entry)) 19, half n (now (ks .entry)) 18) (blockIn n h))) (now (dst .entry)) ⌝ }
 {
     if fit(n, dst.len()) {
         leave_any(u, n, ks, h, dst)

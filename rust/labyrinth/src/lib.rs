@@ -178,59 +178,44 @@ pub struct Start<'a>(
     pub &'a [u8],
 );
 
+// What the functions for a block, and those for CBC, have in common.
+type Block = unsafe extern "C" fn(usize, usize, *const u8, usize, *const u8, usize, *mut u8, usize) -> u8;
+type Cbc = unsafe extern "C" fn(usize, usize, *const u8, usize, *const u8, usize, *const u8, usize, *mut u8, usize) -> u8;
+
 // Of every call below: a slice's pointer is valid for its length, and dst, borrowed mutably, overlaps no other slice. That is all that
 // the library asks of its caller; lengths and sizes may be anything.
 impl Key<'_> {
+    fn block(&self, map: Block, src: &[u8], dst: &mut [u8]) -> Result<(), Error> {
+        let Key { n, l, bytes: key } = *self;
+        answer(unsafe { map(n, l, key.as_ptr(), key.len(), src.as_ptr(), src.len(), dst.as_mut_ptr(), dst.len()) })
+    }
+
+    fn cbc(&self, run: Cbc, start: Start<'_>, src: &[u8], dst: &mut [u8]) -> Result<(), Error> {
+        let (Key { n, l, bytes: key }, start) = (*self, start.0);
+        let (from, to) = ((src.as_ptr(), src.len()), (dst.as_mut_ptr(), dst.len()));
+        answer(unsafe { run(n, l, key.as_ptr(), key.len(), start.as_ptr(), start.len(), from.0, from.1, to.0, to.1) })
+    }
+
     /// Enciphers one block of 16n bytes. Refused with 1, 2, 3, 4 or 5, the first that applies in this order.
     pub fn encipher(&self, src: &[u8], dst: &mut [u8]) -> Result<(), Error> {
-        let Key { n, l, bytes: key } = *self;
-        answer(unsafe { labyrinth_encipher(n, l, key.as_ptr(), key.len(), src.as_ptr(), src.len(), dst.as_mut_ptr(), dst.len()) })
+        self.block(labyrinth_encipher, src, dst)
     }
 
     /// Deciphers one block of 16n bytes. Refused as in [`Key::encipher`].
     pub fn decipher(&self, src: &[u8], dst: &mut [u8]) -> Result<(), Error> {
-        let Key { n, l, bytes: key } = *self;
-        answer(unsafe { labyrinth_decipher(n, l, key.as_ptr(), key.len(), src.as_ptr(), src.len(), dst.as_mut_ptr(), dst.len()) })
+        self.block(labyrinth_decipher, src, dst)
     }
 
     /// Seals whole blocks, any number of them, by CBC. Refused with 1, 2, 3, 6, 4 or 5, the first that applies in this order. A start
     /// block is for one page only, and nobody should be able to tell it beforehand. A changed sealed page is not noticed at opening.
     pub fn cbc_seal(&self, start: Start<'_>, src: &[u8], dst: &mut [u8]) -> Result<(), Error> {
-        let (Key { n, l, bytes: key }, start) = (*self, start.0);
-        answer(unsafe {
-            labyrinth_cbc_seal(
-                n,
-                l,
-                key.as_ptr(),
-                key.len(),
-                start.as_ptr(),
-                start.len(),
-                src.as_ptr(),
-                src.len(),
-                dst.as_mut_ptr(),
-                dst.len(),
-            )
-        })
+        self.cbc(labyrinth_cbc_seal, start, src, dst)
     }
 
     /// Opens what [`Key::cbc_seal`] sealed with the same key and start block. Refused as there. With another key or start block, or of a
     /// changed page, it gives something else and says nothing.
     pub fn cbc_open(&self, start: Start<'_>, src: &[u8], dst: &mut [u8]) -> Result<(), Error> {
-        let (Key { n, l, bytes: key }, start) = (*self, start.0);
-        answer(unsafe {
-            labyrinth_cbc_open(
-                n,
-                l,
-                key.as_ptr(),
-                key.len(),
-                start.as_ptr(),
-                start.len(),
-                src.as_ptr(),
-                src.len(),
-                dst.as_mut_ptr(),
-                dst.len(),
-            )
-        })
+        self.cbc(labyrinth_cbc_open, start, src, dst)
     }
 
     /// Seals or opens any number of bytes by CTR, which is the same. Block i has the counter start + q + i modulo 2^(128n), the start

@@ -1,8 +1,7 @@
 -- The tables are the published ones, so the line is E or U.
 -- Assumes nothing.
 use mathlib.Core.Path.{_∙_}
-use mathlib.Core.Logic.{inl}
-use Rattle.labyrinth.proofs.Operations.{table-way, handed-lendable, lent-number}
+use Rattle.labyrinth.proofs.Operations.{table-way, handed-one, handed-lendable, lent-number}
 use borrow.Author.Needs.{needs}
 use Rattle.cipher.proofs.by_table.Statement.{statement}
 use Rattle.cipher.proofs.by_table.Tie as tie
@@ -32,7 +31,7 @@ returns : tie.Need-returns
 returns c =
     let made = c .before .before .before .before .before .before .before .before in
     let a = made .before .before .before .before .before .before .args in
-    let table = inl (made .before .before .before .merged-table .ensures) in
+    let table = handed-one (made .before .before .before .merged-table .ensures) in
     let applied = c .before .before .apply-tables .ensures in
     let number = applied .0 ∙ lent-number (a .k .n) _ _ _ (handed-lendable table) in (
       number,

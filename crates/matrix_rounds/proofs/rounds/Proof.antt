@@ -12,7 +12,7 @@ use Rattle.field.specs.Mixing.{mixBy}
 use Rattle.labyrinth.specs.Working.{Size}
 use Rattle.labyrinth.proofs.Sizes.{size-one, size-two, size-four}
 use Rattle.labyrinth.specs.Working.{both}
-use Rattle.labyrinth.proofs.Rounds.{Ran, ran-none, ran-room, ran-more, ran-all, ran-legal, choose-illegal}
+use Rattle.labyrinth.proofs.Rounds.{Ran, ran-none, ran-room, ran-more, ran-all, ran-legal, when-illegal}
 use borrow.Author.Needs.{needs}
 use Rattle.matrix_rounds.proofs.rounds.Statement.{statement}
 use Rattle.matrix_rounds.proofs.rounds.Tie as tie
@@ -76,7 +76,7 @@ returns c =
 returns-2 : tie.Need-returns-2 Inv-loop μ-loop
 returns-2 c =
     let n = c .before .before .before .before .before .args .n in
-    sym (choose-illegal n (c .before .before .if1 .left) (eqb-false n 2 (c .before .if2 .left)) (eqb-false n 4 (c .if3 .left)) _ _)
+    sym (when-illegal n (c .before .before .if1 .left) (eqb-false n 2 (c .before .if2 .left)) (eqb-false n 4 (c .if3 .left)) _ _)
 
 pub rounds-spec : {M : Type 1} → statement M
 rounds-spec =

@@ -5,7 +5,7 @@ use native.Mathlib.Omega.{arith}
 use Rattle.field.specs.Merged.{lookup}
 use Rattle.labyrinth.specs.Working.{lookupIn, share}
 use Rattle.labyrinth.proofs.Sizes.{size-one, size-two, size-four}
-use Rattle.labyrinth.proofs.Rounds.{iterated, choose-illegal}
+use Rattle.labyrinth.proofs.Rounds.{iterated, when-illegal}
 use borrow.Author.Needs.{needs}
 use Rattle.table_rounds.proofs.iteration.Statement.{statement}
 use Rattle.table_rounds.proofs.iteration.Tie as tie
@@ -44,7 +44,7 @@ returns-3 c =
     iterated _ (s .args .n) 4 (omega arith) size-four _ (s .args .k) _ _ (omega arith) (c .before .before .before .before .before .before .before .before .before .alone .ensures) (c .round3 .ensures)
 
 returns-4 : tie.Need-returns-4
-returns-4 c = sym (choose-illegal (c .before .before .before .before .before .args .n) (λ e. omega arith) (λ e. omega arith) (λ e. omega arith) _ _)
+returns-4 c = sym (when-illegal (c .before .before .before .before .before .args .n) (λ e. omega arith) (λ e. omega arith) (λ e. omega arith) _ _)
 
 pub iteration-spec : {M : Type 1} → statement M
 iteration-spec =
