@@ -117,7 +117,7 @@ def work(tape):
     return done.stdout, done.stderr
 
 
-def fault(tape, answer):
+def difference(tape, answer):
     """What the program wrote, if it isn't the answer alone."""
     got, said = work(tape)
     return None if got == answer and not said else f"{got.hex()[:80]} {said.decode()}, not {answer.hex()[:80]}"
@@ -202,13 +202,13 @@ def main():
     failures = []
     tapes = [*example(), *block_vectors(), *lengths(), *cut_short(), *refusals()]
     for name, tape, answer in tapes:
-        wrong = fault(tape, answer)
+        wrong = difference(tape, answer)
         if wrong:
             failures.append(f"{name}: {wrong}")
     # an altered answer is noticed: the last byte of a vector's, and one byte too many
     _, tape, answer = tapes[1]
     for altered in (answer[:-1] + bytes([answer[-1] ^ 1]), answer + b"\x00"):
-        if not fault(tape, altered):
+        if not difference(tape, altered):
             failures.append("an altered answer passed")
     # short reads
     for name, tape, answer in tapes[:2]:
