@@ -5,6 +5,7 @@ pub mod Sums
 pub mod Words
 pub mod Field
 pub mod Remainder
+pub mod Degree
 pub mod Mixing
 pub mod Eight
 pub mod Substitution

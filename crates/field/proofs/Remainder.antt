@@ -11,14 +11,14 @@ use Rattle.field.proofs.Xor.{Digit, off, on, parity, xors, xor-shl, dig
 use Rattle.field.proofs.Sums.{xorSum-cong, xorSum-xor, into}
 use Rattle.field.proofs.Field.{shift-lt}
 
-poly-xor : (n b : ℕ) → Additive (λ a. polyMul n a b)
+pub poly-xor : (n b : ℕ) → Additive (λ a. polyMul n a b)
 unfolding polyMul
 poly-xor n b x y =
     xorSum-cong n (λ k. b / 2 ^ k % 2 * (bitXor x y * 2 ^ k)) (λ k. bitXor (b / 2 ^ k % 2 * (x * 2 ^ k)) (b / 2 ^ k % 2 * (y * 2 ^ k)))
     (λ k l. ap (λ (z : ℕ). b / 2 ^ k % 2 * z) (xor-shl x y k) ∙ digit-times (parity (b / 2 ^ k)) (x * 2 ^ k) (y * 2 ^ k))
     ∙ xorSum-xor n (λ k. b / 2 ^ k % 2 * (x * 2 ^ k)) (λ k. b / 2 ^ k % 2 * (y * 2 ^ k))
 
-poly-double : (n a b : ℕ) → polyMul n (a * 2) b ≡ polyMul n a b * 2
+pub poly-double : (n a b : ℕ) → polyMul n (a * 2) b ≡ polyMul n a b * 2
 unfolding polyMul
 poly-double n a b =
     xorSum-cong n (λ k. b / 2 ^ k % 2 * (a * 2 * 2 ^ k)) (λ k. b / 2 ^ k % 2 * (a * 2 ^ k) * 2)

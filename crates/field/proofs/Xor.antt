@@ -15,7 +15,7 @@ pub data Digit : ℕ → Type 0 where
   off : Digit 0
   on : Digit 1
 
-digit : (n : ℕ) → n < 2 → Digit n
+pub digit : (n : ℕ) → n < 2 → Digit n
 digit zero h = off
 digit (suc zero) h = on
 digit (suc (suc n)) h = let z : ⊥ = omega arith in absurd z
@@ -47,6 +47,10 @@ xor-left-comm a b c = sym (xor-assoc a b c) ∙ ap (λ (x : ℕ). bitXor x c) (x
 
 pub xor-cancel : (a b : ℕ) → bitXor a (bitXor a b) ≡ b
 xor-cancel a b = sym (xor-assoc a a b) ∙ ap (λ (x : ℕ). bitXor x b) (xor-self a)
+
+-- only equal numbers have the XOR 0
+pub xor-zero : (a b : ℕ) → bitXor a b ≡ 0 → a ≡ b
+xor-zero a b e = sym (xor-cancel b a) ∙ ap (bitXor b) (xor-comm b a ∙ e) ∙ xor-zero-r b
 
 pub ruleset xors = (xor-assoc, xor-comm, xor-left-comm, xor-self, xor-cancel, xor-zero-r)
 

@@ -160,7 +160,7 @@ left S ks h d {n} {m} {x} {d₁} {d₂} e l k p q r =
 
 -- ---- what is tested first
 
-and-both : (a b : Bool) → (a && b) ≡ true → (a ≡ true) × (b ≡ true)
+pub and-both : (a b : Bool) → (a && b) ≡ true → (a ≡ true) × (b ≡ true)
 and-both true b e = (refl, e)
 and-both false b e = absurd (subst T (sym e) tt)
 

@@ -159,7 +159,7 @@ before-rest z c s zero = block-zero z s
 before-rest z c s (suc i) = block-suc z i s
 
 -- where the first block stands apart
-before-next : (z : ℕ) (d rest : List ℕ) → length d ≡ z → (c : List ℕ) (i : ℕ) → before z c (d ++ rest) (suc i) ≡ before z d rest i
+pub before-next : (z : ℕ) (d rest : List ℕ) → length d ≡ z → (c : List ℕ) (i : ℕ) → before z c (d ++ rest) (suc i) ≡ before z d rest i
 before-next z d rest e c i = before-rest z c (d ++ rest) i ∙ ap₂ (λ (x y : List ℕ). before z x y i) (take-at d rest z e) (drop-at d rest z e)
 
 module _ (e : List ℕ → List ℕ) (z : ℕ) (k : Keeps z e) where

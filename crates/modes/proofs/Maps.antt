@@ -1,6 +1,6 @@
 -- What the modes need of a block map, and that the article's cipher has it.
 -- Assumes nothing.
-use mathlib.Core.Path.{_≡_}
+use mathlib.Core.Path.{_≡_, subst}
 use mathlib.Core.List.{List}
 use Prim.Native.Nat.{ℕ, _*_}
 use lib.ListN.{length}
@@ -33,3 +33,7 @@ module _ (n : ℕ) (ws : List ℕ) where
 
   pub undone-U : Small ws → Undone (16 * n) (U article n ws) (E article n ws)
   undone-U h = record { back = λ b. article-E-U n ws b h }
+
+-- at n = 1 a block has 16 bytes
+pub keeps-one : (n : ℕ) (ws : List ℕ) → n ≡ 1 → Keeps 16 (E article n ws)
+keeps-one n ws e = subst (λ (k : ℕ). Keeps (16 * k) (E article n ws)) e (keeps-E n ws)

@@ -1,23 +1,28 @@
 -- Laws of byte strings: their XOR, the numbers that they are, and their blocks.
 -- Assumes nothing.
 use mathlib.Core.Path.{_≡_, refl, sym, ap, ap₂, _∙_, subst}
+use mathlib.Core.Bool.{true, _&&_, false≢true}
+use mathlib.Core.Logic.{⊎-elim}
 use mathlib.Core.List.{List, [], _∷_, _++_}
 use Prim.Native.Nat.{ℕ, zero, suc, _+_, _-_, _*_, _/_, _%_, _^_, _≤_, _<_, min}
-use native.Mathlib.Nat.{mod-add-mod, suc-mul, add-mul, zero-mul, mul-le-mul-right, div-mul-le-self, mul-assoc, div-one, div-add-mod', add-comm, add-mul-div-right, zero-min, min-zero, suc-min-suc}
+use native.Mathlib.Nat.{eq-or-lt-of-le, le-of-suc-le-suc, div-eq-of-lt, mod-eq-of-lt, zero-div, mod-add-mod, suc-mul, add-mul, zero-mul, mul-le-mul-right, div-mul-le-self, mul-assoc, div-one, div-add-mod', add-comm, add-mul-div-right, zero-min, min-zero, suc-min-suc}
 use native.Mathlib.Numerals.{add-one}
 use native.Mathlib.Omega.{arith}
-use lib.Bits.{bitXor, xor-comm, xor-lt}
+use lib.Bits.{bitXor, xor-comm, xor-lt, xor-zero-r}
 use lib.Pow.{pow-add, shr-shr}
-use lib.ListN.{length, getD, take, drop, length-append, length-drop, take-append-drop, List·getD-append}
-use lib.Seq.{take-all, take-at, drop-at, getD-at, take-append-le, drop-append-le, drop-append-add, drop-drop, length-take-le}
+use lib.ListN.{length, getD, take, drop, set, length-append, length-set, length-drop, take-append-drop, List·getD-append}
+use borrow.Author.Tests.{eq-eqb, eqb-true}
+use lib.Dec.{eqb}
+use lib.Seq.{ext-getD, getD-set-same, getD-set-other, take-all, take-at, drop-at, getD-at, take-append-le, drop-append-le, drop-append-add, drop-drop, length-take-le}
 use Rattle.field.specs.Lists.{tabulate}
 use Rattle.field.specs.Words.{byte, join}
 use Rattle.field.proofs.Xor.{xors}
 use Rattle.field.proofs.Lists.{length-tabulate, getD-tabulate, tabulate-cong, tabulated}
-use Rattle.field.proofs.Words.{byte-lt, byte-join, join-byte, join-cong}
+use Rattle.field.proofs.Words.{byte-lt, byte-xor, byte-join, join-byte, join-cong, join-lt}
 use Rattle.labyrinth.proofs.Blocks.{Bytes, tabulate-small, take-bytes, drop-bytes}
 use Rattle.labyrinth.proofs.Buffers.{tabulate-add}
-use Rattle.modes.specs.Strings.{xorBytes, number, string, block}
+use Rattle.labyrinth.proofs.Ends.{and-both}
+use Rattle.modes.specs.Strings.{xorBytes, number, string, block, same}
 
 -- ---- the XOR of two strings
 
@@ -79,7 +84,7 @@ xorBytes-append [] (y ∷ k) t = refl
 xorBytes-append (x ∷ s) (y ∷ k) t = ap (_∷_ (bitXor x y)) (xorBytes-append s k t)
 
 -- the same part of both
-take-xorBytes : (k : ℕ) (xs ys : List ℕ) → take k (xorBytes xs ys) ≡ xorBytes (take k xs) (take k ys)
+pub take-xorBytes : (k : ℕ) (xs ys : List ℕ) → take k (xorBytes xs ys) ≡ xorBytes (take k xs) (take k ys)
 unfolding xorBytes
 take-xorBytes zero xs ys = refl
 take-xorBytes (suc k) [] ys = refl
@@ -180,6 +185,55 @@ string-add z v a =
     ∙ ap (string z) (mod-add-mod v (2 ^ (8 * z)) a)
     ∙ string-mod z (v + a)
 
+-- the string of an XOR is the XOR of the strings
+pub string-xor : (z v w : ℕ) → xorBytes (string z v) (string z w) ≡ string z (bitXor v w)
+unfolding string
+string-xor z v w =
+    tabulated z (λ i. byte (bitXor v w) (z - 1 - i)) 0 (xorBytes (string z v) (string z w))
+    (length-xorBytes (string z v) (string z w) (omega (arith, length-string z v, length-string z w)) ∙ length-string z v)
+    (λ i l. getD-xorBytes (string z v) (string z w) i (omega (arith, length-string z v)) (omega (arith, length-string z w))
+    ∙ ap₂ bitXor (getD-tabulate z (λ i. byte v (z - 1 - i)) 0 i l) (getD-tabulate z (λ i. byte w (z - 1 - i)) 0 i l)
+    ∙ sym (byte-xor (z - 1 - i) v w))
+
+-- above the least byte of a byte there is nothing
+byte-none : (v k : ℕ) → v < 256 → byte v (suc k) ≡ 0
+unfolding byte
+byte-none v k h = byte-up v k ∙ ap (λ (x : ℕ). byte x k) (div-eq-of-lt h) ∙ ap (λ (x : ℕ). x % 2 ^ 8) (zero-div (2 ^ (8 * k)))
+
+-- the XOR with a byte at the end of a string
+pub xor-last : (z v : ℕ) (xs : List ℕ) → length xs ≡ suc z → v < 256 → set xs z (bitXor (getD xs z 0) v) ≡ xorBytes xs (string (suc z) v)
+unfolding string
+xor-last z v xs l h =
+    ext-getD 0 (set xs z (bitXor (getD xs z 0) v)) (xorBytes xs (string (suc z) v))
+    (length-set xs z _ ∙ sym (length-xorBytes xs (string (suc z) v) (omega (arith, length-string (suc z) v))))
+    (λ i m. at i (subst (λ (k : ℕ). i < k) (length-set xs z _ ∙ l) m))
+  where
+    there : (i : ℕ) → i < suc z → getD (xorBytes xs (string (suc z) v)) i 0 ≡ bitXor (getD xs i 0) (byte v (z - i))
+    there i m =
+        getD-xorBytes xs (string (suc z) v) i (omega arith) (omega (arith, length-string (suc z) v))
+        ∙ ap (bitXor (getD xs i 0)) (getD-tabulate (suc z) (λ i. byte v (suc z - 1 - i)) 0 i m ∙ (let e : suc z - 1 - i ≡ z - i = omega arith in ap (byte v) e))
+
+    at : (i : ℕ) → i < suc z → getD (set xs z (bitXor (getD xs z 0) v)) i 0 ≡ getD (xorBytes xs (string (suc z) v)) i 0
+    at i m = ⊎-elim
+        (λ (e : i ≡ z). rw e (getD-set-same xs z _ 0 (omega arith) ∙ sym (there z (omega arith) ∙ ap (bitXor (getD xs z 0)) (byte-least v (z - z) (omega arith) ∙ mod-eq-of-lt h))))
+        (λ (k : i < z). getD-set-other xs z i _ 0 (λ e. omega arith)
+        ∙ sym (there i m ∙ ap (bitXor (getD xs i 0)) (let e : z - i ≡ suc (z - i - 1) = omega arith in ap (byte v) e ∙ byte-none v (z - i - 1) h) ∙ xor-zero-r (getD xs i 0)))
+        (eq-or-lt-of-le (le-of-suc-le-suc m))
+
+-- a number with its first byte apart
+pub number-first : (x : ℕ) (xs : List ℕ) → number (x ∷ xs) ≡ x * 2 ^ (8 * length xs) + number xs
+unfolding number join
+number-first x xs =
+    let n : ℕ = length xs in
+    ap₂ (λ (a b : ℕ). a * 2 ^ (8 * n) + b)
+    (let e : suc n - 1 - n ≡ 0 = omega arith in ap (λ (k : ℕ). getD (x ∷ xs) k 0) e)
+    (join-cong n (λ i. getD (x ∷ xs) (suc n - 1 - i) 0) (λ i. getD xs (n - 1 - i) 0)
+    (λ i l. let e : suc n - 1 - i ≡ suc (n - 1 - i) = omega arith in ap (λ (k : ℕ). getD (x ∷ xs) k 0) e))
+
+pub number-lt : (xs : List ℕ) → Bytes xs → number xs < 2 ^ (8 * length xs)
+unfolding number
+number-lt xs h = join-lt (length xs) (λ i. getD xs (length xs - 1 - i) 0) (λ i. h (length xs - 1 - i))
+
 -- ---- whole blocks
 
 -- k bytes of whole blocks are k / z blocks
@@ -270,3 +324,17 @@ ext-blocks z (suc m) xs ys p q h =
     ∙ ap₂ _++_ (sym (block-zero z xs) ∙ h 0 (omega arith) ∙ block-zero z ys)
     (ext-blocks z m (drop z xs) (drop z ys) (length-rest z m xs p) (length-rest z m ys q) (λ i l. sym (block-suc z i xs) ∙ h (suc i) (omega arith) ∙ block-suc z i ys))
     ∙ take-append-drop z ys
+
+-- ---- equal strings
+
+pub same-refl : (xs : List ℕ) → same xs xs ≡ true
+unfolding same
+same-refl [] = refl
+same-refl (x ∷ xs) = rw (eq-eqb x x refl) (same-refl xs)
+
+pub same-eq : (xs ys : List ℕ) → same xs ys ≡ true → xs ≡ ys
+unfolding same
+same-eq [] [] e = refl
+same-eq [] (y ∷ ys) e = absurd (false≢true e)
+same-eq (x ∷ xs) [] e = absurd (false≢true e)
+same-eq (x ∷ xs) (y ∷ ys) e = let p = and-both (eqb x y) (same xs ys) e in ap₂ _∷_ (eqb-true x y (p .0)) (same-eq xs ys (p .1))

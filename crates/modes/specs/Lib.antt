@@ -1,4 +1,6 @@
 pub mod Strings
 pub mod Cbc
 pub mod Ctr
+pub mod Cmac
+pub mod Gf128
 pub mod Refusals

@@ -1,7 +1,8 @@
--- What the runs turn away, with document 01's numbers in its order of checks.
+-- What the runs and the tags turn away, with the papers' numbers in their order of checks.
 -- Assumes nothing.
 use Prim.Native.Nat.{ℕ, _*_, _%_}
-use lib.Dec.{eqb}
+use mathlib.Core.Bool.{_&&_}
+use lib.Dec.{eqb, leb}
 use Rattle.labyrinth.specs.Refusals.{unless, legal}
 
 -- the lengths of a CBC run: 6 if the start block isn't 16n bytes, 4 if the source isn't whole blocks, 5 if the destination isn't as long
@@ -20,6 +21,14 @@ cbcRefusal n start source destination = unless (legal n) 1 (cbcLengths n start s
 -- CTR: 1 if n is illegal, then the lengths
 unfoldable pub ctrRefusal : ℕ → ℕ → ℕ → ℕ → ℕ
 ctrRefusal n start source destination = unless (legal n) 1 (ctrLengths n start source destination)
+
+-- what else a tag of so many bytes asks for (document 02): 12 if n isn't 1, then 11 if there aren't 8 to 16 bytes
+unfoldable pub cmacLengths : ℕ → ℕ → ℕ
+cmacLengths n tag = unless (eqb n 1) 12 (unless (leb 8 tag && leb tag 16) 11 0)
+
+-- CMAC, making and verifying: 1 if n is illegal, then 12 and 11
+unfoldable pub cmacRefusal : ℕ → ℕ → ℕ
+cmacRefusal n tag = unless (legal n) 1 (cmacLengths n tag)
 
 -- two calls, the second only if the first was not refused
 unfoldable pub firstOf : ℕ → ℕ → ℕ

@@ -2,8 +2,10 @@
 -- string is the least of the number that it is. One reading for every mode.
 -- Assumes nothing.
 use Prim.Native.Nat.{ℕ, _-_, _*_}
+use mathlib.Core.Bool.{Bool, true, false, _&&_}
 use mathlib.Core.List.{List, [], _∷_}
 use lib.Bits.{bitXor}
+use lib.Dec.{eqb}
 use lib.ListN.{length, getD, take, drop}
 use Rattle.field.specs.Lists.{tabulate}
 use Rattle.field.specs.Words.{byte, join}
@@ -25,3 +27,10 @@ string z v = tabulate z (λ i. byte v (z - 1 - i))
 -- block i of a string, i from 0: bytes zi to zi + z - 1
 unfoldable pub block : ℕ → ℕ → List ℕ → List ℕ
 block z i xs = take z (drop (i * z) xs)
+
+-- whether two strings are the same, byte for byte
+unfoldable pub same : List ℕ → List ℕ → Bool
+same [] [] = true
+same [] (y ∷ ys) = false
+same (x ∷ xs) [] = false
+same (x ∷ xs) (y ∷ ys) = eqb x y && same xs ys

@@ -1,6 +1,8 @@
-// The refusals of the runs. Their definitions are those of modes.
+// The refusals of the runs and of tags. Their definitions are those of modes.
 mod chaining;
 mod counting;
+mod tagging;
 
 pub use chaining::cbc_refusal;
 pub use counting::ctr_refusal;
+pub use tagging::cmac_refusal;

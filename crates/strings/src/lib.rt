@@ -1,9 +1,9 @@
 // Operations on byte strings that the modes are made of, for strings of any lengths, and room for a block.
 ghost use mathlib.Core.Path.{_≡_};
 ghost use mathlib.Core.List.{_++_};
-ghost use Prim.Native.Nat.{_+_, _≤_, min};
+ghost use Prim.Native.Nat.{_+_, _*_, _≤_, min};
 ghost use lib.ListN.{length, take, drop, replicate};
-ghost use Rattle.modes.specs.Strings.{xorBytes, number, string};
+ghost use Rattle.modes.specs.Strings.{xorBytes, number, string, same};
 
 // The lesser of two lengths.
 fn lesser(a: usize, b: usize) -> usize
@@ -86,4 +86,34 @@ pub fn add_into(c: &mut [u8], v: u64)
         c[i] = (t % 256) as u8;
         carry = carry / 256 + t / 256;
     }
+}
+
+// Doubles the number that c is, modulo 2 to as many bits as c has.
+pub fn double_into(c: &mut [u8])
+    ensures { λ _. ⌜ now (c .exit) ≡ string (length (now (c .entry))) (2 * number (now (c .entry))) ⌝ }
+{
+    let mut i = c.len();
+    let mut carry = 0u64;
+    while 0 < i {
+        i -= 1;
+        let t = 2 * wide(c[i]) + carry;
+        c[i] = (t % 256) as u8;
+        carry = t / 256;
+    }
+}
+
+// Whether a and b are the same string. Of strings of one length every byte is compared, whatever those before it were.
+pub fn equal(a: &[u8], b: &[u8]) -> bool
+    ensures { λ r. ⌜ r ≡ same (now (a .entry)) (now (b .entry)) ⌝ }
+{
+    if a.len() != b.len() {
+        return false;
+    }
+    let mut different = 0u8;
+    let mut i = 0usize;
+    while i < a.len() {
+        different = different | (a[i] ^ b[i]);
+        i += 1;
+    }
+    different == 0
 }

@@ -6,7 +6,7 @@ use native.Mathlib.Omega.{arith}
 use lib.ListN.{length, getD, take, set, length-set}
 use borrow.Author.Tests.{not-false, eqb-true}
 use Rattle.modes.specs.Strings.{number, string}
-use Rattle.strings.proofs.Adding.{added, added-first, added-next, before-next, added-none, added-all}
+use Rattle.strings.proofs.Adding.{added, added-first, added-next, before-next, added-none, scaled-all}
 use borrow.Author.Needs.{needs}
 use Rattle.strings.proofs.add_into.Statement.{statement}
 use Rattle.strings.proofs.add_into.Tie as tie
@@ -79,7 +79,7 @@ same-length-2 c = search needs
 returns-2 : tie.Need-returns-2 Inv-loop μ-loop
 returns-2 c =
     let p = c .before in
-    sym (added-all (p .loop .c) (p .loop .i) (p .loop .carry) (omega arith)) ∙ p .loop .inv .4
+    sym (scaled-all 1 (p .loop .c) (p .loop .i) (p .loop .carry) (omega arith)) ∙ p .loop .inv .4
 
 pub add-into-spec : {M : Type 1} → statement M
 add-into-spec =

@@ -1,0 +1,43 @@
+-- What the two operations answer, out of the last block of the chain.
+-- Assumes nothing.
+use mathlib.Core.Path.{_≡_, refl, sym, ap, ap₂, _∙_}
+use mathlib.Core.Bool.{Bool, true, false}
+use mathlib.Core.List.{List, _++_, append-nil}
+use Prim.Native.Nat.{ℕ, zero, suc, _≤_}
+use native.Mathlib.Omega.{arith}
+use lib.ListN.{length, take, drop, drop-of-length-le}
+use Rattle.modes.specs.Strings.{same}
+use Rattle.modes.specs.Cmac.{mac, tag, valid}
+use Rattle.modes.proofs.Maps.{Keeps}
+use Rattle.modes.proofs.Cmac.{length-mac}
+use Rattle.cmac.specs.declared.Verified.{Verified}
+use Rattle.cmac.specs.Verification.{verification}
+
+module _ (e : List ℕ → List ℕ) (m : List ℕ) where
+  -- copied to a destination of at most 16 bytes, it is the tag
+  pub tag-copied : Keeps 16 e → (dst : List ℕ) {last r : List ℕ} → length dst ≤ 16 → last ≡ mac e m → r ≡ take (length dst) last ++ drop (length last) dst
+      → r ≡ tag e (length dst) m
+  unfolding tag
+  tag-copied k dst {last} h p w =
+      w ∙ ap₂ (λ (x : List ℕ) (y : List ℕ). take (length dst) x ++ y) p (drop-of-length-le dst {i = length last} (omega (arith, ap length p, length-mac e k m)))
+      ∙ append-nil (take (length dst) (mac e m))
+
+  -- a refusal is a no
+  pub refused-no : (given : List ℕ) (n : ℕ) {r : ℕ} → r ≡ n → (r ≡ 0 → ⊥) → record { number = r; yes = false } ≡ verification e m given n
+  unfolding verification
+  refused-no given zero p h = absurd (h p)
+  refused-no given (suc n) p h = ap (λ (r : ℕ). record { number = r; yes = false }) p
+
+  -- else its first bytes are compared
+  pub compared-yes : (given : List ℕ) (n : ℕ) {r : ℕ} {last : List ℕ} {yes : Bool} → r ≡ n → r ≡ 0 → last ≡ mac e m → yes ≡ same (take (length given) last) given
+      → record { number = 0; yes = yes } ≡ verification e m given n
+  unfolding verification valid tag
+  compared-yes given zero p z l y = ap (λ (b : Bool). record { number = 0; yes = b }) (y ∙ ap (λ (x : List ℕ). same (take (length given) x) given) l)
+  compared-yes given (suc n) p z l y = let f : ⊥ = omega arith in absurd f
+
+-- ---- verifying what was made, and no other
+
+pub verification-number : (e : List ℕ → List ℕ) (m given : List ℕ) (n : ℕ) → verification e m given n .number ≡ n
+unfolding verification
+verification-number e m given zero = refl
+verification-number e m given (suc n) = refl

@@ -1,0 +1,123 @@
+// CMAC (NIST SP 800-38B) over the cipher's block operation at n = 1: a message's tag made, and a given tag verified.
+//
+// The tables and the schedule are made once for a message, and lent to every block.
+use labyrinth::WorkingKey;
+ghost use mathlib.Core.Path.{_≡_};
+ghost use mathlib.Core.Bool.{true};
+ghost use Prim.Native.Nat.{_*_, _-_, _/_, _%_};
+ghost use lib.ListN.{length, replicate};
+ghost use Rattle.labyrinth.specs.Cipher.{article};
+ghost use Rattle.labyrinth.specs.Keys.{E};
+ghost use Rattle.labyrinth.specs.Refusals.{outcome};
+ghost use Rattle.labyrinth.specs.Working.{lendable, tableParts, lineBytes};
+ghost use Rattle.modes.specs.Strings.{xorBytes};
+ghost use Rattle.modes.specs.Cmac.{blockCount, chain, mac};
+ghost use Rattle.modes.specs.Cmac.{tag as madeTag};
+ghost use Rattle.modes.specs.Refusals.{cmacRefusal};
+ghost use Rattle.cmac.specs.Verification.{verification};
+
+// What verifying answers: the number, and whether the given tag is the message's. A refusal is a no.
+pub struct Verified {
+    pub number: u8,
+    pub yes: bool,
+}
+
+// How many bytes of a message stand before its last block.
+fn front(size: usize) -> usize
+    ensures { λ r. ⌜ r ≡ 16 * (blockCount size - 1) ⌝ }
+{
+    if size == 0 { 0 } else { (size - 1) / 16 * 16 }
+}
+
+// The block of zeros enciphered: the standard's L.
+fn zeros_enciphered(t: &[u64], s: &[u8; 256], u: &[u8; 256], ks: &[u64; 80]) -> [u8; 16]
+    requires { ⌜ lendable (length (now t)) ≡ true ⌝ }
+    ensures { λ r. ⌜ r ≡ lineBytes (tableParts (now (s .entry)) (now (u .entry)) (now (t .entry))) 1 (now (ks .entry)) (replicate 16 0) ⌝ }
+{
+    let zeros = [0u8; 16];
+    let mut l = [0u8; 16];
+    cipher::apply_tables(t, s, u, 1, ks, &zeros, &mut l);
+    l
+}
+
+// Chains a block: c becomes the XOR of c and the block, enciphered.
+fn chain_block(t: &[u64], s: &[u8; 256], u: &[u8; 256], ks: &[u64; 80], c: &mut [u8], block: &[u8])
+    requires { ⌜ (length (now c) ≡ 16) × (length (now block) ≡ 16) × (lendable (length (now t)) ≡ true) ⌝ }
+    ensures { λ _. ⌜ now (c .exit) ≡ lineBytes (tableParts (now (s .entry)) (now (u .entry)) (now (t .entry))) 1 (now (ks .entry)) (xorBytes (now (c .entry)) (now (block .entry))) ⌝ }
+{
+    let mut x = [0u8; 16];
+    strings::xor_to(&mut x, c, block);
+    cipher::apply_tables(t, s, u, 1, ks, &x, c);
+}
+
+// Chains whole blocks.
+fn chain_blocks(t: &[u64], s: &[u8; 256], u: &[u8; 256], ks: &[u64; 80], c: &mut [u8], src: &[u8])
+    requires { ⌜ (length (now c) ≡ 16) × (length (now src) % 16 ≡ 0) × (lendable (length (now t)) ≡ true) ⌝ }
+    ensures { λ _. ⌜ now (c .exit) ≡ chain (lineBytes (tableParts (now (s .entry)) (now (u .entry)) (now (t .entry))) 1 (now (ks .entry))) (length (now (src .entry)) / 16) (now (c .entry)) (now (src .entry)) ⌝ }
+{
+    let mut at = 0usize;
+    while at < src.len() {
+        let end = at + 16;
+        chain_block(t, s, u, ks, c, &src[at..end]);
+        at = end;
+    }
+}
+
+// The last block of a message's chain, with the tables lent.
+fn last_of(t: &[u64], s: &[u8; 256], u: &[u8; 256], ks: &[u64; 80], message: &[u8]) -> [u8; 16]
+    requires { ⌜ lendable (length (now t)) ≡ true ⌝ }
+    ensures { λ r. ⌜ r ≡ mac (lineBytes (tableParts (now (s .entry)) (now (u .entry)) (now (t .entry))) 1 (now (ks .entry))) (now (message .entry)) ⌝ }
+{
+    let at = front(message.len());
+    let mut c = [0u8; 16];
+    chain_blocks(t, s, u, ks, &mut c, &message[..at]);
+    let l = zeros_enciphered(t, s, u, ks);
+    let last = masks::last_block(l, &message[at..]);
+    chain_block(t, s, u, ks, &mut c, &last);
+    c
+}
+
+// The last block of the chain by the published tables.
+fn chained(k: WorkingKey, message: &[u8]) -> [u8; 16]
+    requires { ⌜ k .n ≡ 1 ⌝ }
+    ensures { λ r. ⌜ r ≡ mac (E article (k .n) (k .words)) (now (message .entry)) ⌝ }
+{
+    let t = tables::merged_table();
+    let s = tables::sbox();
+    let u = tables::sbox_inverse();
+    let ks = schedule::schedule(k, false);
+    last_of(&t, &s, &u, &ks, message)
+}
+
+// Makes a message's tag, as long as dst.
+pub fn make(k: WorkingKey, message: &[u8], dst: &mut [u8]) -> u8
+    ensures number { λ r. ⌜ r ≡ cmacRefusal (k .n) (length (now (dst .entry))) ⌝ }
+    ensures tag { λ r. ⌜ now (dst .exit) ≡ outcome r (madeTag (E article (k .n) (k .words)) (length (now (dst .entry))) (now (message .entry))) (now (dst .entry)) ⌝ }
+{
+    let number = run_refusals::cmac_refusal(k.n, dst.len());
+    if number != 0 {
+        return number;
+    }
+    let last = chained(k, message);
+    strings::copy_into(dst, &last);
+    0
+}
+
+// Verifies a given tag: every byte of it is compared.
+pub fn verify(k: WorkingKey, message: &[u8], tag: &[u8]) -> Verified
+    ensures { λ r. ⌜ r ≡ verification (E article (k .n) (k .words)) (now (message .entry)) (now (tag .entry)) (cmacRefusal (k .n) (length (now (tag .entry)))) ⌝ }
+{
+    let size = tag.len();
+    let number = run_refusals::cmac_refusal(k.n, size);
+    if number != 0 {
+        return Verified {
+            number: number,
+            yes: false,
+        };
+    }
+    let last = chained(k, message);
+    Verified {
+        number: 0,
+        yes: strings::equal(&last[..size], tag),
+    }
+}
