@@ -1,6 +1,6 @@
 #!/usr/bin/env python3
 """Writes what a program of ours reads and must print, made from the archivists' program and vectors alone, and for refusals from
-document 01's numbers.
+the papers' numbers.
 
     tests/expected.py --all DIR     for each program NAME its input, if it has one, to DIR/NAME.stdin and its output to DIR/NAME.stdout
     tests/expected.py --list        NAME and the count of its cases, a line each
@@ -44,9 +44,20 @@ def far_runs():
             yield {"n": n, "l": 2, "q": f"{LARGE:x}", **texts}
 
 
+def more_tags():
+    """CMAC vectors more, by the archivists' program: each key length, message length about a block, and tag length."""
+    for l in (2, 3, 4):
+        key = bytes(range(l, 9 * l))
+        for length in (0, 1, 15, 16, 17, 31, 32, 33, 48):
+            message = bytes((7 * i + length) % 256 for i in range(length))
+            for taglen in range(8, 17):
+                tag = modes.cmac(labyrinth.Labyrinth(1, key), message, taglen)
+                yield {"n": 1, "l": l, "key": key.hex(), "msg": message.hex(), "taglen": taglen, "tag": tag.hex()}
+
+
 def vectors_input():
-    """Cases of a head (kind, n, l, q in 8 bytes, the source's length in 2, lowest byte first), the key, a run's start block, the source.
-    A block's source is the block to encipher and the block to decipher."""
+    """Cases of a head (kind, n, l, q in 8 bytes or for CMAC the tag's length, the source's length in 2, lowest byte first), the key, a run's
+    start block or for CMAC the tag, the source. A block's source is the block to encipher and the block to decipher."""
     def case(kind, v, q, start, source):
         head = bytes([kind, v["n"], v["l"]]) + q.to_bytes(8, "little") + (len(source) // 2).to_bytes(2, "little")
         return head + bytes.fromhex(v["key"] + start + source)
@@ -57,10 +68,13 @@ def vectors_input():
         yield case(1, v, 0, v["iv"], v["pt"])
     for v in [*found("ctr", 360), *far_runs()]:
         yield case(2, v, int(v["q"], 16), v["start"], v["pt"])
+    for v in [*found("cmac", 40), *more_tags()]:
+        yield case(3, v, v["taglen"], v["tag"], v["msg"])
 
 
 def vectors():
-    """For each block the expansion with all 32 words, then both engines enciphering and deciphering; each run sealed and opened."""
+    """For each block the expansion with all 32 words, then both engines enciphering and deciphering; each run sealed and opened; each tag
+    made, verified (number 0 and yes), and verified with each bit flipped (number 0 and no)."""
     for v in found("block", 225):
         yield (
             f"expand 0 {v['expanded'].ljust(512, '0')}\n"
@@ -71,10 +85,13 @@ def vectors():
         yield f"cbc seal 0 {v['ct']}\ncbc open 0 {v['pt']}\n"
     for v in [*found("ctr", 360), *far_runs()]:
         yield f"ctr seal 0 {v['ct']}\nctr open 0 {v['pt']}\n"
+    for v in [*found("cmac", 40), *more_tags()]:
+        yield f"cmac make 0 {v['tag']}\ncmac verify 01\ncmac flipped {'00' * 8 * v['taglen']}\n"
 
 
 # document 01's operations: expansion of n, l and a key's length; block operations under a key made by hand, with the lengths of the
-# source and the destination; runs under such a key, with the lengths of the start block, the source and the destination
+# source and the destination; runs under such a key, with the lengths of the start block, the source and the destination; and document
+# 02's tags under such a key, with the lengths of the message and the tag
 EXPANSIONS = [
     (0, 2, 16), (3, 2, 48), (8, 2, 128), (3, 9, 0), (LARGE, 2, 16), (1 << 62, 4, 0), (0, 0, 0),
     (1, 1, 8), (1, 5, 40), (2, 0, 0), (4, LARGE, 0), (1, 1 << 61, 0),
@@ -95,8 +112,15 @@ RUNS = [
     (1, 16, 0, 0), (1, 16, 1, 1), (1, 16, 16, 16), (1, 16, 32, 32), (2, 32, 33, 33), (2, 32, 64, 64), (4, 64, 0, 0), (4, 64, 192, 192),
     (4, 64, 255, 255),
 ]
+TAGS = [
+    (0, 16, 16), (3, 16, 16), (3, 0, 7), (8, 16, 17), (LARGE, 1, 16), ((1 << 32) + 1, 1, 16),
+    (2, 16, 16), (4, 16, 16), (2, 0, 7), (4, 17, 17), (2, 32, 0),
+    (1, 16, 7), (1, 16, 17), (1, 0, 0), (1, 0, 1), (1, 32, 32), (1, 15, 255),
+    (1, 0, 8), (1, 1, 8), (1, 15, 16), (1, 16, 8), (1, 16, 16), (1, 17, 15), (1, 32, 9), (1, 255, 12),
+]
 BLOCK_OPERATIONS = ["encipher table", "encipher matrix", "decipher table", "decipher matrix"]
 RUN_OPERATIONS = ["cbc seal", "cbc open", "ctr"]
+TAG_OPERATIONS = ["make", "verify"]
 
 
 def refusals_input():
@@ -112,10 +136,14 @@ def refusals_input():
     for op in range(3):
         for n, start, source, destination in RUNS:
             yield case(5 + op, n, 0, start, source, destination)
+    for op in range(2):
+        for n, message, tag in TAGS:
+            yield case(8 + op, n, 0, 0, message, tag)
 
 
 def refusals():
-    """The number by document 01's order of checks; of a refusal, that the returned key is all zeros or the destination as it was."""
+    """The number by the papers' order of checks; of a refusal, that the returned key is all zeros or the destination as it was; a tag of
+    bytes alike is no message's, so verifying says no."""
     for n, l, key in EXPANSIONS:
         number = 1 if n not in (1, 2, 4) else 2 if l not in (2, 3, 4) else 3 if key != 8 * n * l else 0
         yield f"expand {number} {'zeros' if number else 'made'}\n"
@@ -128,6 +156,10 @@ def refusals():
             uneven = op != "ctr" and source % (16 * n or 1)
             number = 1 if n not in (1, 2, 4) else 6 if start != 16 * n else 4 if uneven else 5 if destination != source else 0
             yield f"{op} {number} {'same' if number else 'made' if destination else 'empty'}\n"
+    for op in TAG_OPERATIONS:
+        for n, message, tag in TAGS:
+            number = 1 if n not in (1, 2, 4) else 12 if n != 1 else 11 if not 8 <= tag <= 16 else 0
+            yield f"cmac {op} {number} {'no' if op == 'verify' else 'same' if number else 'made'}\n"
 
 
 # steps of a tape: (state by hand (n, keyed, ended) or None for what the step before left, room, rest)
@@ -220,8 +252,8 @@ def tape_steps():
 # name: (the maker of the input, the maker of the output, how many cases)
 PROGRAMS = {
     "print_tables": (None, print_tables, 256),
-    "vectors": (vectors_input, vectors, 663),
-    "refusals": (refusals_input, refusals, 205),
+    "vectors": (vectors_input, vectors, 946),
+    "refusals": (refusals_input, refusals, 255),
     "tape_steps": (tape_steps_input, tape_steps, 104),
 }
 

@@ -1,7 +1,8 @@
 // Prints how operations answer to bad and good arguments. Standard input has cases of 23 bytes: the operation, n and l in 8 bytes
 // each and three lengths in 2 bytes each, lowest byte first: of the key; of the source and the destination of a block; of the start
-// block, the source and the destination of a run. The line of a case: the operation, its number, and whether the key returned is all
-// zeros ('zeros'), the destination is as it was ('same'), something was made ('made'), or a run of no bytes was taken ('empty').
+// block (for CMAC none), the source and the destination of a run or a tag. The line of a case: the operation, its number, and whether the
+// key returned is all zeros ('zeros'), the destination is as it was ('same'), something was made ('made'), or a run of no bytes was taken
+// ('empty'); of a tag that is verified, 'yes' or 'no'.
 use labyrinth::WorkingKey;
 use libc::STDIN_FILENO;
 use libc::STDOUT_FILENO;
@@ -122,6 +123,23 @@ fn run_case(op: u8, k: WorkingKey, start: &[u8], src: &[u8], dst: &mut [u8]) {
     }
 }
 
+// A tag, made or verified: the destination's bytes are a tag that no message has here.
+fn tag_case(op: u8, k: WorkingKey, message: &[u8], tag: &mut [u8]) {
+    if op == 8 {
+        let number = cmac::make(k, message, tag);
+        print_result(b"cmac make ", number, tag);
+    } else {
+        let v = cmac::verify(k, message, tag);
+        io::write_all(STDOUT_FILENO, b"cmac verify ");
+        io::print_decimal(STDOUT_FILENO, v.number as u64);
+        if v.yes {
+            io::write_all(STDOUT_FILENO, b" yes\n");
+        } else {
+            io::write_all(STDOUT_FILENO, b" no\n");
+        }
+    }
+}
+
 // The front of a buffer.
 fn front(s: &[u8], count: usize) -> &[u8] {
     if count <= s.len() { &s[..count] } else { s }
@@ -152,7 +170,11 @@ fn take_case(case: &[u8]) {
         block_case(op, k, given, front_mut(&mut room, second));
     } else {
         let dst = front_mut(&mut room, length_at(case, 21));
-        run_case(op, k, given, front(&src, second), dst);
+        if op < 8 {
+            run_case(op, k, given, front(&src, second), dst);
+        } else {
+            tag_case(op, k, front(&src, second), dst);
+        }
     }
 }
 

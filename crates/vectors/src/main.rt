@@ -1,12 +1,15 @@
-// Prints the answers to vectors. Standard input has cases: a head of 13 bytes, the kind (0 a block, 1 CBC, 2 CTR), n, l, q in 8 bytes
-// and the source's length in 2, lowest byte first; then the key, for a run the start block, and the source.
+// Prints the answers to vectors. Standard input has cases: a head of 13 bytes, the kind (0 a block, 1 CBC, 2 CTR, 3 CMAC), n, l, q in 8
+// bytes, for CMAC the tag's length in its place, and the source's length in 2, lowest byte first; then the key, for a run the start block,
+// for CMAC a tag, and the source.
 // A block's source is a block to encipher and one to decipher. Its case has five lines: the number of the expansion and all 32 words,
-// then for each engine and direction the number and the block. A run's has two: the source sealed, and what that gave opened.
+// then for each engine and direction the number and the block. A run's has two: the source sealed, and what that gave opened. CMAC's has
+// three: the source's tag made, the given tag verified, and it verified with each bit flipped in turn. Verifying prints the number and then
+// 1 for yes or 0 for no, a hexadecimal digit each.
 use labyrinth::WorkingKey;
 use libc::STDIN_FILENO;
 use libc::STDOUT_FILENO;
 ghost use mathlib.Core.Path.{_≡_};
-ghost use Prim.Native.Nat.{_≤_};
+ghost use Prim.Native.Nat.{_≤_, _<_};
 ghost use lib.ListN.{length};
 
 // The bytes from one place to another, or none where they are not there.
@@ -143,6 +146,55 @@ fn print_run(kind: u8, k: WorkingKey, start: &[u8], q: u64, src: &[u8]) {
     }
 }
 
+// What verifying answers, as a byte: the number's digit and then 1 for yes, 0 for no.
+fn verified(k: WorkingKey, message: &[u8], tag: &[u8]) -> u8 {
+    let v = cmac::verify(k, message, tag);
+    let digit = (v.number % 16) * 16;
+    if v.yes { digit + 1 } else { digit }
+}
+
+// The byte with a bit flipped.
+fn flipped(b: u8, bit: usize) -> u8
+    requires { ⌜ bit < 8 ⌝ }
+{
+    b ^ (1u8 << bit)
+}
+
+// The answer to a tag with bit i of it flipped, if it has that.
+fn print_flip(k: WorkingKey, message: &[u8], tag: &mut [u8], i: usize) {
+    let at = i / 8;
+    if at < tag.len() {
+        let byte = tag[at];
+        tag[at] = flipped(byte, i % 8);
+        print_byte(verified(k, message, tag));
+        tag[at] = byte;
+    }
+}
+
+// The answers to a tag with each bit of it flipped in turn, one after another.
+fn print_flips(k: WorkingKey, message: &[u8], tag: &mut [u8]) {
+    io::write_all(STDOUT_FILENO, b"cmac flipped ");
+    let mut i = 0usize;
+    while i < 128 {
+        print_flip(k, message, tag, i);
+        i += 1;
+    }
+    io::write_all(STDOUT_FILENO, b"\n");
+}
+
+// The lines of a tag's case.
+fn print_tag(k: WorkingKey, given: &[u8], message: &[u8]) {
+    let mut made = room();
+    let dst = front(&mut made, given.len());
+    let number = cmac::make(k, message, dst);
+    print_line(b"cmac make ", number, dst);
+    io::write_all(STDOUT_FILENO, b"cmac verify ");
+    print_byte(verified(k, message, given));
+    io::write_all(STDOUT_FILENO, b"\n");
+    strings::copy_into(dst, given);
+    print_flips(k, message, dst);
+}
+
 // The lines of a case. Its key ends at one place, its start block at another.
 fn print_case(kind: u8, n: usize, l: usize, q: u64, key: usize, at: usize, case: &[u8]) {
     let e = expansion::expand(n, l, part(case, 0, key));
@@ -152,6 +204,8 @@ fn print_case(kind: u8, n: usize, l: usize, q: u64, key: usize, at: usize, case:
     let src = part(case, at, case.len());
     if kind == 0 {
         print_block(number, k, src);
+    } else if kind == 3 {
+        print_tag(k, start, src);
     } else {
         print_run(kind, k, start, q, src);
     }
@@ -171,12 +225,18 @@ fn key_length(n: usize, l: usize) -> usize
     }
 }
 
-// The length of the start block of a case.
-fn start_length(kind: u8, n: usize) -> usize
+// The length of the start block of a case, or of the tag in its place.
+fn start_length(kind: u8, n: usize, q: u64) -> usize
     requires { ⌜ n ≤ 4 ⌝ }
     ensures { λ r. ⌜ r ≤ 64 ⌝ }
 {
-    if kind == 0 { 0 } else { 16 * n }
+    if kind == 0 {
+        0
+    } else if kind == 3 {
+        (q % 32) as usize
+    } else {
+        16 * n
+    }
 }
 
 // Reads a case and prints its lines, if there is one.
@@ -201,7 +261,7 @@ fn read_case() -> bool {
         return false;
     }
     let key = key_length(n, l);
-    let at = key + start_length(kind, n);
+    let at = key + start_length(kind, n, q);
     let total = at + length;
     let case = front(&mut space, total);
     if io::read_full(STDIN_FILENO, case) != total {
