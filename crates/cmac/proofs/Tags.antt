@@ -5,11 +5,14 @@ use mathlib.Core.Bool.{Bool, true, false}
 use mathlib.Core.List.{List, _++_, append-nil}
 use Prim.Native.Nat.{ℕ, zero, suc, _≤_}
 use native.Mathlib.Omega.{arith}
+use borrow.Author.Tests.{ne-eqb}
+use lib.Dec.{eqb}
 use lib.ListN.{length, take, drop, drop-of-length-le}
+use Rattle.labyrinth.specs.Refusals.{outcome}
 use Rattle.modes.specs.Strings.{same}
 use Rattle.modes.specs.Cmac.{mac, tag, valid}
 use Rattle.modes.proofs.Maps.{Keeps}
-use Rattle.modes.proofs.Cmac.{length-mac}
+use Rattle.modes.proofs.Cmac.{length-mac, made-valid}
 use Rattle.cmac.specs.declared.Verified.{Verified}
 use Rattle.cmac.specs.Verification.{verification}
 
@@ -35,9 +38,23 @@ module _ (e : List ℕ → List ℕ) (m : List ℕ) where
   compared-yes given zero p z l y = ap (λ (b : Bool). record { number = 0; yes = b }) (y ∙ ap (λ (x : List ℕ). same (take (length given) x) given) l)
   compared-yes given (suc n) p z l y = let f : ⊥ = omega arith in absurd f
 
--- ---- verifying what was made, and no other
+-- ---- verifying what was made
 
 pub verification-number : (e : List ℕ → List ℕ) (m given : List ℕ) (n : ℕ) → verification e m given n .number ≡ n
 unfolding verification
 verification-number e m given zero = refl
 verification-number e m given (suc n) = refl
+
+-- a tag that make left in a buffer, verified at once: yes, unless it was refused
+pub made-verified : (e : List ℕ → List ℕ) (m old : List ℕ) (refusal : ℕ → ℕ) {r : ℕ} {given : List ℕ} {v : Verified} → (refusal (length old) ≡ 0 → Keeps 16 e × (length old ≤ 16))
+    → r ≡ refusal (length old) → given ≡ outcome r (tag e (length old) m) old → length given ≡ length old → v ≡ verification e m given (refusal (length given))
+    → v ≡ record { number = refusal (length old); yes = eqb (refusal (length old)) 0 }
+unfolding verification
+made-verified e m old refusal {r} {given} {v} keeps p w l q =
+    q ∙ ap (λ (k : ℕ). verification e m given (refusal k)) l
+    ∙ ap (λ (x : List ℕ). verification e m x (refusal (length old))) (w ∙ ap (λ (k : ℕ). outcome k (tag e (length old) m) old) p)
+    ∙ go (refusal (length old)) keeps
+  where
+    go : (n : ℕ) → (n ≡ 0 → Keeps 16 e × (length old ≤ 16)) → verification e m (outcome n (tag e (length old) m) old) n ≡ record { number = n; yes = eqb n 0 }
+    go zero k = let h = k refl in ap (λ (b : Bool). record { number = 0; yes = b }) (made-valid e (h .0) (length old) m (h .1))
+    go (suc n) k = let f : suc n ≡ 0 → ⊥ = λ z. omega arith in ap (λ (b : Bool). record { number = suc n; yes = b }) (sym (ne-eqb (suc n) 0 f))

@@ -1,6 +1,7 @@
 -- A key expanded and used at once: the working key, and the number, expansion's before the operation's own.
 -- Assumes nothing.
-use Prim.Native.Nat.{ℕ}
+use Prim.Native.Nat.{ℕ, zero, suc}
+use mathlib.Core.Bool.{Bool, true, false}
 use mathlib.Core.List.{List}
 use lib.ListN.{length}
 use Rattle.labyrinth.specs.declared.WorkingKey.{WorkingKey}
@@ -15,3 +16,9 @@ keyOf n l key = expansion (article .SM) n l key (expandRefusal n l (length key))
 -- expansion's number, or if it is 0 the operation's
 abbrev pub numberOf : ℕ → ℕ → List ℕ → ℕ → ℕ
 numberOf n l key operation = firstOf (expandRefusal n l (length key)) operation
+
+-- the byte that says yes, by the number and whether the tag is valid: 1, or 0 for every refusal and every no
+abbrev pub yesByte : ℕ → Bool → ℕ
+yesByte zero true = 1
+yesByte zero false = 0
+yesByte (suc number) tag = 0

@@ -9,8 +9,10 @@ ghost use Rattle.labyrinth.specs.Keys.{E, U};
 ghost use Rattle.labyrinth.specs.Refusals.{blockRefusal, outcome};
 ghost use Rattle.modes.specs.Cbc.{cbcSeal, cbcOpen};
 ghost use Rattle.modes.specs.Ctr.{ctr};
-ghost use Rattle.modes.specs.Refusals.{cbcRefusal, ctrRefusal};
-ghost use Rattle.labyrinth_c.specs.OneShot.{keyOf, numberOf};
+ghost use Rattle.modes.specs.Cmac.{valid};
+ghost use Rattle.modes.specs.Cmac.{tag as madeTag};
+ghost use Rattle.modes.specs.Refusals.{cbcRefusal, ctrRefusal, cmacRefusal};
+ghost use Rattle.labyrinth_c.specs.OneShot.{keyOf, numberOf, yesByte};
 
 // Enciphers a block.
 #[no_mangle]
@@ -109,6 +111,48 @@ pub extern "C" fn labyrinth_ctr(
         return x.number;
     }
     ctr::run(x.key, start, q, src, dst)
+}
+
+// Makes a message's tag at n = 1, as long as tag.
+#[no_mangle]
+pub extern "C" fn labyrinth_cmac(l: usize, key: &[u8], message: &[u8], tag: &mut [u8]) -> u8
+    ensures number { λ r. ⌜ r ≡ numberOf 1 l (now (key .entry)) (cmacRefusal 1 (length (now (tag .entry)))) ⌝ }
+    ensures tag { λ r. ⌜ now (tag .exit) ≡ outcome r (madeTag (E article 1 (keyOf 1 l (now (key .entry)) .words)) (length (now (tag .entry))) (now (message .entry))) (now (tag .entry)) ⌝ }
+{
+    let x = expansion::expand(1, l, key);
+    if x.number != 0 {
+        return x.number;
+    }
+    cmac::make(x.key, message, tag)
+}
+
+// A yes as a byte.
+fn as_byte(yes: bool) -> u8
+    ensures { λ r. ⌜ r ≡ yesByte 0 yes ⌝ }
+{
+    if yes { 1 } else { 0 }
+}
+
+// Verifies a given tag at n = 1. Every call sets yes.
+#[no_mangle]
+pub extern "C" fn labyrinth_cmac_verify(
+    l: usize,
+    key: &[u8],
+    message: &[u8],
+    tag: &[u8],
+    yes: &mut u8,
+) -> u8
+    ensures number { λ r. ⌜ r ≡ numberOf 1 l (now (key .entry)) (cmacRefusal 1 (length (now (tag .entry)))) ⌝ }
+    ensures yes { λ r. ⌜ now (yes .exit) ≡ yesByte r (valid (E article 1 (keyOf 1 l (now (key .entry)) .words)) (now (message .entry)) (now (tag .entry))) ⌝ }
+{
+    let x = expansion::expand(1, l, key);
+    if x.number != 0 {
+        *yes = 0;
+        return x.number;
+    }
+    let v = cmac::verify(x.key, message, tag);
+    *yes = as_byte(v.yes);
+    v.number
 }
 
 // Mixes a word.

@@ -1,14 +1,18 @@
-// A run sealed and opened again by the operations themselves: for all arguments the source comes back, or the first refusal.
+// A run sealed and opened again by the operations themselves, and a tag made and verified: for all arguments the source comes back, or the
+// first refusal, and a tag that was made gets a yes.
+use cmac::Verified;
 use labyrinth::WorkingKey;
 ghost use mathlib.Core.Path.{_≡_};
 ghost use Prim.Native.Nat.{_*_};
+ghost use lib.Dec.{eqb};
 ghost use lib.ListN.{length};
 ghost use Rattle.labyrinth.specs.Cipher.{article};
 ghost use Rattle.labyrinth.specs.Keys.{E};
 ghost use Rattle.labyrinth.specs.Refusals.{outcome};
 ghost use Rattle.modes.specs.Cbc.{cbcSeal};
 ghost use Rattle.modes.specs.Ctr.{ctr as ctrRun};
-ghost use Rattle.modes.specs.Refusals.{cbcRefusal, ctrRefusal, firstOf};
+ghost use Rattle.modes.specs.Cmac.{tag as madeTag};
+ghost use Rattle.modes.specs.Refusals.{cbcRefusal, ctrRefusal, cmacRefusal, firstOf};
 
 // Seals src to mid and, if that was not refused, opens mid to dst: then dst holds what src holds.
 pub fn cbc_there_and_back(
@@ -47,4 +51,13 @@ pub fn ctr_there_and_back(
         return number;
     }
     ctr::run(k, start, q, mid, dst)
+}
+
+// Makes a message's tag and verifies it: yes, unless it was refused.
+pub fn tag_made_and_verified(k: WorkingKey, message: &[u8], tag: &mut [u8]) -> Verified
+    ensures answer { λ r. ⌜ r ≡ record { number = cmacRefusal (k .n) (length (now (tag .entry))); yes = eqb (cmacRefusal (k .n) (length (now (tag .entry)))) 0 } ⌝ }
+    ensures made { λ _. ⌜ now (tag .exit) ≡ outcome (cmacRefusal (k .n) (length (now (tag .entry)))) (madeTag (E article (k .n) (k .words)) (length (now (tag .entry))) (now (message .entry))) (now (tag .entry)) ⌝ }
+{
+    cmac::make(k, message, tag);
+    cmac::verify(k, message, tag)
 }

@@ -1,0 +1,35 @@
+-- Expansion's number and a no, or the answer under the key that it gave.
+-- Assumes nothing.
+use Rattle.labyrinth_c.proofs.OneShot.{verify-refused, verify-passed}
+use borrow.Author.Needs.{needs}
+use Rattle.labyrinth_c.proofs.labyrinth_cmac_verify.Statement.{statement}
+use Rattle.labyrinth_c.proofs.labyrinth_cmac_verify.Tie as tie
+
+-- src/lib.rt:148:9
+expand-requires : tie.Need-expand-requires
+expand-requires c κs = search needs
+
+-- src/lib.rt:151:9
+returns : tie.Need-returns
+returns c =
+    let a = c .before .before .before .before .before .before .args in
+    verify-refused 1 (a .l) (a .key .now) (a .message .now) (a .tag .now) (c .before .before .expand .ensures) (c .if1 .taken)
+
+-- src/lib.rt:153:9
+verify-requires : tie.Need-verify-requires
+verify-requires c κs = search needs
+
+-- src/lib.rt:154:12
+as-byte-requires : tie.Need-as-byte-requires
+as-byte-requires c κs = search needs
+
+-- src/lib.rt:137:1
+returns-2 : tie.Need-returns-2
+returns-2 c =
+    let x = c .before .before .before .before in
+    let a = x .before .before .before .before .args in
+    verify-passed 1 (a .l) (a .key .now) (a .message .now) (a .tag .now) (x .expand .ensures) (c .before .before .if1 .left) (c .before .verify .ensures) (c .as-byte .ensures)
+
+pub labyrinth-cmac-verify-spec : {M : Type 1} → statement M
+labyrinth-cmac-verify-spec =
+    tie.close (tie.spec expand-requires returns verify-requires as-byte-requires returns-2)
