@@ -1,21 +1,27 @@
-/* The block cipher Labyrinth, and CBC and CTR of NIST SP 800-38A over it. Each function expands a key, does one operation and keeps
- * nothing. n is 1, 2 or 4: a block has 16n bytes. l is 2, 3 or 4: a key has 8nl bytes.
+/* The block cipher Labyrinth, and over it CBC and CTR of NIST SP 800-38A and the tag of SP 800-38B (CMAC). Each function expands a key,
+ * does one operation and keeps nothing. n is 1, 2 or 4: a block has 16n bytes. l is 2, 3 or 4: a key has 8nl bytes. Tags are at n = 1.
  *
- * Returned is document 01's number: 0 if it was done, else the first of these that applies, and then dst holds what it held before:
+ * Returned is the number of documents 01 and 02: 0 if it was done, else the first of these that applies, and then dst, or the tag to be
+ * made, holds what it held before:
  *   1  n isn't 1, 2 or 4
  *   2  l isn't 2, 3 or 4
  *   3  the key isn't 8nl bytes
  *   6  the start block isn't 16n bytes
  *   4  the source isn't 16n bytes (a block), or no multiple of that (CBC)
  *   5  the destination isn't 16n bytes (a block), or isn't as long as the source (CBC, CTR)
+ *  11  the tag isn't 8 to 16 bytes
  *
- * 0 does not say that a page is genuine: by a wrong key, or altered, it opens to something too.
+ * 0 alone does not say that a page is genuine: by a wrong key, or altered, it opens to something too, and verifying its tag returns 0 for a
+ * no as for a yes. Look at *yes.
  *
  * What the caller owes; what is proved of these functions holds only then:
- *   - Each pointer is valid for its length: key, start and src for reading, dst for writing. Any alignment will do. NULL only with length
- *     0: such a pointer is never followed.
- *   - dst overlaps neither key nor start nor src, which may overlap each other: nothing is sealed or opened in place.
- *   - While a call runs nobody else writes to its buffers or reads dst, which may hold other bytes then than in the end.
+ *   - Each pointer is valid for its length: key, start, src, msg and the tag to be verified for reading, dst and the tag to be made for
+ *     writing. Any alignment will do. NULL only with length 0: such a pointer is never followed. yes points to one byte for writing and
+ *     is never NULL.
+ *   - dst, the tag to be made and yes overlap nothing else of their call; what is only read may overlap. So nothing is sealed or opened
+ *     in place.
+ *   - While a call runs nobody else writes to its buffers or reads dst, the tag to be made or yes, which may hold other bytes then than
+ *     in the end.
  *   - The stack has LABYRINTH_STACK bytes left.
  *
  * The calls are reentrant, also in threads: there is no heap and no state. The archive has no writable data and refers to no symbols but
@@ -50,6 +56,15 @@ uint8_t labyrinth_cbc_open(size_t n, size_t l, const uint8_t *key, size_t key_le
 /* Any number of bytes; sealing and opening are the same. Block i has the counter start + q + i modulo 2^(128n), the start block read with
  * its last byte least. Never use one start block with overlapping counters for two pages under one key. */
 uint8_t labyrinth_ctr(size_t n, size_t l, const uint8_t *key, size_t key_len, const uint8_t *start, size_t start_len, uint64_t q, const uint8_t *src, size_t src_len, uint8_t *dst, size_t dst_len);
+
+/* The tag of a message of any length, the empty one too: the first tag_len bytes of its CMAC. There is no n, which is 1: a key has 8l
+ * bytes. labyrinth_cmac writes the tag. labyrinth_cmac_verify sets *yes at every call: to 1 if it returns 0 and tag is the message's, else
+ * to 0, at every refusal too. It compares all bytes, without an early exit; nothing is claimed of its time.
+ *
+ * Tag the sealed page, under a key used for nothing else, and verify before opening. A tag covers its message only: a start block, or q,
+ * kept where it could be altered belongs to the message. */
+uint8_t labyrinth_cmac(size_t l, const uint8_t *key, size_t key_len, const uint8_t *msg, size_t msg_len, uint8_t *tag, size_t tag_len);
+uint8_t labyrinth_cmac_verify(size_t l, const uint8_t *key, size_t key_len, const uint8_t *msg, size_t msg_len, const uint8_t *tag, size_t tag_len, uint8_t *yes);
 
 /* The article's mixing of a word. */
 uint64_t labyrinth_mix(uint64_t word);

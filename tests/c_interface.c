@@ -1,5 +1,6 @@
-/* The C interface tried: every number in its order, NULL, stack use, and lent memory; and that this program notices what it is to
- * notice, by stubs that stand in the library's place and do wrong. tests/c_interface.sh builds and runs it.
+/* The C interface tried: every number in its order, NULL, runs and tags over labyrinth_encipher, stack use, and lent memory; and that
+ * this program notices what it is to notice, by stubs that stand in the library's place and do wrong. tests/c_interface.sh builds and
+ * runs it.
  *
  *     c_interface [--long] [--seed N]      the seed is for the lent memory; without it one is taken from the clock, and printed */
 #define _GNU_SOURCE
@@ -18,37 +19,40 @@
 
 #include "labyrinth.h"
 
-/* ---- calls: a function of any of the three shapes with its arguments */
+/* ---- calls: a function of any of the five shapes with its arguments */
 
 typedef uint8_t block_fn(size_t, size_t, const uint8_t *, size_t, const uint8_t *, size_t, uint8_t *, size_t);
 typedef uint8_t cbc_fn(size_t, size_t, const uint8_t *, size_t, const uint8_t *, size_t, const uint8_t *, size_t, uint8_t *, size_t);
 typedef uint8_t ctr_fn(size_t, size_t, const uint8_t *, size_t, const uint8_t *, size_t, uint64_t, const uint8_t *, size_t, uint8_t *, size_t);
+typedef uint8_t cmac_fn(size_t, const uint8_t *, size_t, const uint8_t *, size_t, uint8_t *, size_t);
+typedef uint8_t verify_fn(size_t, const uint8_t *, size_t, const uint8_t *, size_t, const uint8_t *, size_t, uint8_t *);
 typedef uint64_t mix_fn(uint64_t);
 
-enum kind { BLOCK, CBC, CTR };
+/* A tag's message is SRC. The tag to be made is DST; the one to be verified stands for START, and DST is *yes, always one byte. */
+enum kind { BLOCK, CBC, CTR, CMAC, VERIFY, KINDS };
 enum buffer { KEY, START, SRC, DST, BUFFERS };
-static const char *const buffer_names[BUFFERS] = {"key", "start", "src", "dst"};
-enum { OPS = 5 };
+static const char *const buffer_names[BUFFERS] = {"key", "start or the tag to be verified", "src or msg", "dst, the tag to be made or yes"};
+enum { OPS = 7, MAKES = 5, VERIFIES = 6 };
 
 struct op {
     const char *name;
     enum kind kind;
-    block_fn *block;
-    cbc_fn *cbc;
-    ctr_fn *ctr;
-    int back; /* the number of the op that undoes it */
+    int back; /* the number of the op that undoes it; none for a tag */
+    union { block_fn *block; cbc_fn *cbc; ctr_fn *ctr; cmac_fn *cmac; verify_fn *verify; } fn;
 };
 
 static const struct op library[OPS] = {
-    {"labyrinth_encipher", BLOCK, labyrinth_encipher, 0, 0, 1},
-    {"labyrinth_decipher", BLOCK, labyrinth_decipher, 0, 0, 0},
-    {"labyrinth_cbc_seal", CBC, 0, labyrinth_cbc_seal, 0, 3},
-    {"labyrinth_cbc_open", CBC, 0, labyrinth_cbc_open, 0, 2},
-    {"labyrinth_ctr", CTR, 0, 0, labyrinth_ctr, 4},
+    {"labyrinth_encipher", BLOCK, 1, {.block = labyrinth_encipher}},
+    {"labyrinth_decipher", BLOCK, 0, {.block = labyrinth_decipher}},
+    {"labyrinth_cbc_seal", CBC, 3, {.cbc = labyrinth_cbc_seal}},
+    {"labyrinth_cbc_open", CBC, 2, {.cbc = labyrinth_cbc_open}},
+    {"labyrinth_ctr", CTR, 4, {.ctr = labyrinth_ctr}},
+    {"labyrinth_cmac", CMAC, -1, {.cmac = labyrinth_cmac}},
+    {"labyrinth_cmac_verify", VERIFY, -1, {.verify = labyrinth_cmac_verify}},
 };
 
 struct call {
-    size_t n, l;
+    size_t n, l; /* n is 1 for tags */
     uint64_t q;
     uint8_t *at[BUFFERS];
     size_t len[BUFFERS];
@@ -58,22 +62,35 @@ static __attribute__((noinline)) uint8_t run(const struct op *op, const struct c
 {
     switch (op->kind) {
     case BLOCK:
-        return op->block(c->n, c->l, c->at[KEY], c->len[KEY], c->at[SRC], c->len[SRC], c->at[DST], c->len[DST]);
+        return op->fn.block(c->n, c->l, c->at[KEY], c->len[KEY], c->at[SRC], c->len[SRC], c->at[DST], c->len[DST]);
     case CBC:
-        return op->cbc(c->n, c->l, c->at[KEY], c->len[KEY], c->at[START], c->len[START], c->at[SRC], c->len[SRC], c->at[DST], c->len[DST]);
+        return op->fn.cbc(c->n, c->l, c->at[KEY], c->len[KEY], c->at[START], c->len[START], c->at[SRC], c->len[SRC], c->at[DST],
+                          c->len[DST]);
+    case CTR:
+        return op->fn.ctr(c->n, c->l, c->at[KEY], c->len[KEY], c->at[START], c->len[START], c->q, c->at[SRC], c->len[SRC], c->at[DST],
+                          c->len[DST]);
+    case CMAC:
+        return op->fn.cmac(c->l, c->at[KEY], c->len[KEY], c->at[SRC], c->len[SRC], c->at[DST], c->len[DST]);
     default:
-        return op->ctr(c->n, c->l, c->at[KEY], c->len[KEY], c->at[START], c->len[START], c->q, c->at[SRC], c->len[SRC], c->at[DST],
-                       c->len[DST]);
+        return op->fn.verify(c->l, c->at[KEY], c->len[KEY], c->at[SRC], c->len[SRC], c->at[START], c->len[START], c->at[DST]);
     }
 }
 
-/* Document 01's number, by its order of checks; expansion's first. */
+static int is_tag(enum kind kind) { return kind == CMAC || kind == VERIFY; }
+
+static enum buffer tag_of(enum kind kind) { return kind == CMAC ? DST : START; }
+
+/* Whether the operations of this kind have such a buffer. */
+static int has(enum kind kind, enum buffer b) { return b != START || (kind != BLOCK && kind != CMAC); }
+
+/* Document 01's number, by its order of checks, and document 02's for tags; expansion's first. */
 static uint8_t number_of(enum kind kind, const struct call *c)
 {
     size_t n = c->n, l = c->l;
     if (n != 1 && n != 2 && n != 4) return 1;
     if (l != 2 && l != 3 && l != 4) return 2;
     if (c->len[KEY] != 8 * n * l) return 3;
+    if (is_tag(kind)) return c->len[tag_of(kind)] < 8 || c->len[tag_of(kind)] > 16 ? 11 : 0;
     if (kind != BLOCK && c->len[START] != 16 * n) return 6;
     if (kind == BLOCK && c->len[SRC] != 16 * n) return 4;
     if (kind == CBC && c->len[SRC] % (16 * n) != 0) return 4;
@@ -125,16 +142,60 @@ static void fill(uint8_t *at, size_t len)
     for (size_t i = 0; i < len; i++) at[i] = (uint8_t)(next() >> 24);
 }
 
-/* ---- stubs: the library's functions, which then do one thing wrong */
+/* ---- tags: CMAC of SP 800-38B over labyrinth_encipher */
+
+static void encipher(size_t l, const uint8_t *key, uint8_t *block)
+{
+    uint8_t src[16];
+    memcpy(src, block, 16);
+    if (labyrinth_encipher(1, l, key, 8 * l, src, 16, block, 16) != 0) wrong("encipher refused");
+}
+
+/* One bit to the left, the first byte highest; what falls out comes back as 87 in the last byte. */
+static void twice(uint8_t *block)
+{
+    uint8_t out = block[0] >> 7;
+    for (int i = 0; i < 16; i++) block[i] = (uint8_t)(block[i] << 1 | (i < 15 ? block[i + 1] >> 7 : 0));
+    if (out) block[15] ^= 0x87;
+}
+
+static void cmac(size_t l, const uint8_t *key, const uint8_t *msg, size_t len, uint8_t *whole)
+{
+    uint8_t mask[16] = {0};
+    encipher(l, key, mask);
+    twice(mask);
+    if (len == 0 || len % 16 != 0) twice(mask);
+    memset(whole, 0, 16);
+    for (; len > 16; msg += 16, len -= 16) {
+        for (size_t i = 0; i < 16; i++) whole[i] ^= msg[i];
+        encipher(l, key, whole);
+    }
+    for (size_t i = 0; i < 16; i++) whole[i] ^= mask[i] ^ (i < len ? msg[i] : i == len ? 0x80 : 0);
+    encipher(l, key, whole);
+}
+
+/* Whether *yes is what it must be after any call, and the tag after one that was done. */
+static int tag_right(enum kind kind, const struct call *c)
+{
+    uint8_t whole[16];
+    int refused = number_of(kind, c) != 0;
+    if (!refused) cmac(c->l, c->at[KEY], c->at[SRC], c->len[SRC], whole);
+    int equal = !refused && memcmp(c->at[tag_of(kind)], whole, c->len[tag_of(kind)]) == 0;
+    return kind == CMAC ? refused || equal : *c->at[DST] == equal;
+}
+
+/* ---- stubs: the library's functions, which then do one thing wrong, all of them or those of one kind */
 
 static struct {
-    enum { HONEST, PAST, BEFORE, WRITES, SWAPS, TOUCHES, DEEP } what;
+    enum { HONEST, PAST, BEFORE, WRITES, SWAPS, TOUCHES, DEEP, CALLS_3, ALTERS, SAYS_YES, SAYS_NO, LOOKS_AT_8, KEEPS } what;
     enum buffer which;
+    enum kind kind; /* KINDS for all */
 } stub;
 static volatile uint8_t sink;
 
-static uint8_t misdo(uint8_t number, struct call c)
+static uint8_t misdo(enum kind kind, uint8_t number, struct call c)
 {
+    if (stub.kind != KINDS && stub.kind != kind) return number;
     volatile uint8_t *at = c.at[stub.which];
     size_t len = c.len[stub.which];
     switch (stub.what) {
@@ -143,6 +204,10 @@ static uint8_t misdo(uint8_t number, struct call c)
     case WRITES: if (len) at[0] = at[0]; break;
     case SWAPS: if (number == 4 || number == 5) number = (uint8_t)(9 - number); break;
     case TOUCHES: if (number && c.len[DST]) c.at[DST][c.len[DST] - 1] ^= 1; break;
+    case CALLS_3: if (number == 11) number = 3; break;
+    case ALTERS: if (number == 0) c.at[DST][c.len[DST] - 1] ^= 0x80; break;
+    case SAYS_YES: if (number == 0) *c.at[DST] = 1; break;
+    case SAYS_NO: *c.at[DST] = 0; break;
     default: break;
     }
     return number;
@@ -155,21 +220,22 @@ static __attribute__((noinline)) void deepen(void)
     sink = room[0];
 }
 
-#define LENT(start, start_len) \
-    (struct call){n, l, 0, {(uint8_t *)(uintptr_t)key, (uint8_t *)(uintptr_t)(start), (uint8_t *)(uintptr_t)src, dst}, {key_len, start_len, src_len, dst_len}}
+#define LENT(n, start, start_len, src, src_len, dst, dst_len) \
+    (struct call){n, l, 0, {(uint8_t *)(uintptr_t)key, (uint8_t *)(uintptr_t)(start), (uint8_t *)(uintptr_t)(src), dst}, {key_len, start_len, src_len, dst_len}}
 
 #define BLOCK_STUB(name, real) \
     static uint8_t name(size_t n, size_t l, const uint8_t *key, size_t key_len, const uint8_t *src, size_t src_len, uint8_t *dst, size_t dst_len) \
     { \
         if (stub.what == DEEP) deepen(); \
-        return misdo(real(n, l, key, key_len, src, src_len, dst, dst_len), LENT(NULL, 0)); \
+        return misdo(BLOCK, real(n, l, key, key_len, src, src_len, dst, dst_len), LENT(n, NULL, 0, src, src_len, dst, dst_len)); \
     }
 #define CBC_STUB(name, real) \
     static uint8_t name(size_t n, size_t l, const uint8_t *key, size_t key_len, const uint8_t *start, size_t start_len, const uint8_t *src, \
                         size_t src_len, uint8_t *dst, size_t dst_len) \
     { \
         if (stub.what == DEEP) deepen(); \
-        return misdo(real(n, l, key, key_len, start, start_len, src, src_len, dst, dst_len), LENT(start, start_len)); \
+        return misdo(CBC, real(n, l, key, key_len, start, start_len, src, src_len, dst, dst_len), \
+                     LENT(n, start, start_len, src, src_len, dst, dst_len)); \
     }
 BLOCK_STUB(stub_encipher, labyrinth_encipher)
 BLOCK_STUB(stub_decipher, labyrinth_decipher)
@@ -179,15 +245,33 @@ static uint8_t stub_ctr(size_t n, size_t l, const uint8_t *key, size_t key_len, 
                         const uint8_t *src, size_t src_len, uint8_t *dst, size_t dst_len)
 {
     if (stub.what == DEEP) deepen();
-    return misdo(labyrinth_ctr(n, l, key, key_len, start, start_len, q, src, src_len, dst, dst_len), LENT(start, start_len));
+    return misdo(CTR, labyrinth_ctr(n, l, key, key_len, start, start_len, q, src, src_len, dst, dst_len),
+                 LENT(n, start, start_len, src, src_len, dst, dst_len));
+}
+static uint8_t stub_cmac(size_t l, const uint8_t *key, size_t key_len, const uint8_t *msg, size_t msg_len, uint8_t *tag, size_t tag_len)
+{
+    if (stub.what == DEEP) deepen();
+    return misdo(CMAC, labyrinth_cmac(l, key, key_len, msg, msg_len, tag, tag_len), LENT(1, NULL, 0, msg, msg_len, tag, tag_len));
+}
+static uint8_t stub_cmac_verify(size_t l, const uint8_t *key, size_t key_len, const uint8_t *msg, size_t msg_len, const uint8_t *tag,
+                                size_t tag_len, uint8_t *yes)
+{
+    uint8_t held = *yes;
+    if (stub.what == DEEP) deepen();
+    uint8_t number = labyrinth_cmac_verify(l, key, key_len, msg, msg_len, tag, tag_len, yes);
+    if (stub.what == KEEPS && number != 0) *yes = held;
+    if (stub.what == LOOKS_AT_8 && number == 0) labyrinth_cmac_verify(l, key, key_len, msg, msg_len, tag, 8, yes);
+    return misdo(VERIFY, number, LENT(1, tag, tag_len, msg, msg_len, yes, 1));
 }
 
 static const struct op stubs[OPS] = {
-    {"stub_encipher", BLOCK, stub_encipher, 0, 0, 1},
-    {"stub_decipher", BLOCK, stub_decipher, 0, 0, 0},
-    {"stub_cbc_seal", CBC, 0, stub_cbc_seal, 0, 3},
-    {"stub_cbc_open", CBC, 0, stub_cbc_open, 0, 2},
-    {"stub_ctr", CTR, 0, 0, stub_ctr, 4},
+    {"stub_encipher", BLOCK, 1, {.block = stub_encipher}},
+    {"stub_decipher", BLOCK, 0, {.block = stub_decipher}},
+    {"stub_cbc_seal", CBC, 3, {.cbc = stub_cbc_seal}},
+    {"stub_cbc_open", CBC, 2, {.cbc = stub_cbc_open}},
+    {"stub_ctr", CTR, 4, {.ctr = stub_ctr}},
+    {"stub_cmac", CMAC, -1, {.cmac = stub_cmac}},
+    {"stub_cmac_verify", VERIFY, -1, {.verify = stub_cmac_verify}},
 };
 
 /* ---- numbers: each function over a grid of n, l and lengths; every buffer of length 0 is NULL */
@@ -206,6 +290,10 @@ static int around(size_t right, size_t *lengths)
     return count;
 }
 
+/* A call as the grid made it; for the messages. */
+#define CALL_TEXT "%s: n %zu, l %zu, lengths %zu %zu %zu %zu: "
+#define CALL(op, c) (op)->name, (c)->n, (c)->l, (c)->len[KEY], (c)->len[START], (c)->len[SRC], (c)->len[DST]
+
 static void number_case(const struct op *op, struct call *c, long *calls, long *seen)
 {
     for (int b = 0; b < BUFFERS; b++) c->at[b] = c->len[b] ? plain[b] + MARGIN : NULL;
@@ -213,39 +301,68 @@ static void number_case(const struct op *op, struct call *c, long *calls, long *
     uint8_t expected = number_of(op->kind, c), number = run(op, c);
     ++*calls;
     seen[expected]++;
-    if (number != expected)
-        wrong("%s: n %zu, l %zu, lengths %zu %zu %zu %zu: %d, not %d", op->name, c->n, c->l, c->len[KEY], c->len[START], c->len[SRC],
-              c->len[DST], number, expected);
-    size_t written = number == 0 ? c->len[DST] : 0;
+    if (number != expected) wrong(CALL_TEXT "%d, not %d", CALL(op, c), number, expected);
+    size_t written = number == 0 || op->kind == VERIFY ? c->len[DST] : 0;
     if (memcmp(plain[DST], before[DST], MARGIN) != 0 ||
         memcmp(plain[DST] + MARGIN + written, before[DST] + MARGIN + written, ROOM + MARGIN - written) != 0)
-        wrong("%s: n %zu, l %zu, lengths %zu %zu %zu %zu: number %d, and the destination touched", op->name, c->n, c->l, c->len[KEY],
-              c->len[START], c->len[SRC], c->len[DST], number);
-    if (number == 0 && written && memcmp(plain[DST] + MARGIN, before[DST] + MARGIN, written) == 0)
-        wrong("%s: n %zu, l %zu: number 0, and nothing written", op->name, c->n, c->l);
+        wrong(CALL_TEXT "number %d, and the destination touched", CALL(op, c), number);
+    if (is_tag(op->kind) ? !tag_right(op->kind, c) : written && memcmp(plain[DST] + MARGIN, before[DST] + MARGIN, written) == 0)
+        wrong(CALL_TEXT "number %d, and %s", CALL(op, c), number, is_tag(op->kind) ? "the tag or *yes is wrong" : "nothing written");
     for (int b = KEY; b < DST; b++)
         if (memcmp(plain[b], before[b], sizeof plain[b]) != 0) wrong("%s: %s changed", op->name, buffer_names[b]);
 }
 
-static long numbers(const struct op *ops)
+/* each with what it is taken for where lengths are made: low bits where those are small, else a legal one */
+static const struct { size_t value, as; } ns[] = {
+    {0, 0}, {1, 1}, {2, 2}, {3, 3}, {4, 4}, {5, 5}, {8, 8}, {((size_t)1 << 32) + 1, 1}, {((size_t)1 << 32) + 2, 2},
+    {((size_t)1 << 60) + 1, 1}, {(size_t)1 << 63, 0}, {SIZE_MAX, 1},
+}, ls[] = {
+    {0, 0}, {1, 1}, {2, 2}, {3, 3}, {4, 4}, {5, 5}, {8, 8}, {((size_t)1 << 32) + 1, 1}, {((size_t)1 << 32) + 2, 2},
+    {((size_t)1 << 61) + 2, 2}, {SIZE_MAX, 3},
+};
+enum { NS = sizeof ns / sizeof *ns, LS = sizeof ls / sizeof *ls };
+
+/* Tags: lengths of 0 to 17 bytes and more; to be verified, the message's tag and one that differs in its last bit, over both of two
+ * bytes at yes. */
+static void tag_numbers(const struct op *op, long *calls, long *seen)
 {
-    /* each with what it is taken for where lengths are made: low bits where those are small, else a legal one */
-    static const struct { size_t value, as; } ns[] = {
-        {0, 0}, {1, 1}, {2, 2}, {3, 3}, {4, 4}, {5, 5}, {8, 8}, {((size_t)1 << 32) + 1, 1}, {((size_t)1 << 32) + 2, 2},
-        {((size_t)1 << 60) + 1, 1}, {(size_t)1 << 63, 0}, {SIZE_MAX, 1},
-    }, ls[] = {
-        {0, 0}, {1, 1}, {2, 2}, {3, 3}, {4, 4}, {5, 5}, {8, 8}, {((size_t)1 << 32) + 1, 1}, {((size_t)1 << 32) + 2, 2},
-        {((size_t)1 << 61) + 2, 2}, {SIZE_MAX, 3},
-    };
+    static const size_t messages[] = {0, 1, 16, 17}, more[] = {24, 32, 255, 256 + 8, 256 + 16, ROOM};
+    static const uint8_t held[] = {0xAA, 1};
+    for (int j = 0; j < LS; j++) {
+        size_t keys[4], legal = ls[j].value >= 2 && ls[j].value <= 4 ? ls[j].value : 2;
+        int key_count = around(8 * ls[j].as, keys);
+        for (int k = 0; k < key_count; k++)
+            for (size_t m = 0; m < sizeof messages / sizeof *messages; m++)
+                for (size_t t = 0; t < 18 + sizeof more / sizeof *more; t++)
+                    for (int way = 0; way < (op->kind == VERIFY ? 4 : 1); way++) {
+                        size_t tag = t < 18 ? t : more[t - 18];
+                        struct call c = {.n = 1, .l = ls[j].value, .len = {keys[k], 0, messages[m], 1}};
+                        c.len[tag_of(op->kind)] = tag;
+                        if (op->kind == VERIFY) {
+                            cmac(legal, plain[KEY] + MARGIN, plain[SRC] + MARGIN, messages[m], plain[START] + MARGIN);
+                            if (way & 1) plain[START][MARGIN + (tag && tag < 16 ? tag : 16) - 1] ^= 1;
+                            memcpy(before[START], plain[START], sizeof before[START]);
+                            before[DST][MARGIN] = held[way >> 1];
+                        }
+                        number_case(op, &c, calls, seen);
+                    }
+    }
+}
+
+/* The operations of one kind, or, for KINDS, all. */
+static long numbers(const struct op *ops, enum kind kind)
+{
     long calls = 0;
     for (int b = 0; b < BUFFERS; b++) {
         fill(before[b], sizeof before[b]);
         memcpy(plain[b], before[b], sizeof plain[b]);
     }
     for (const struct op *op = ops; op < ops + OPS; op++) {
-        long seen[7] = {0};
-        for (size_t i = 0; i < sizeof ns / sizeof *ns; i++)
-            for (size_t j = 0; j < sizeof ls / sizeof *ls; j++) {
+        long seen[12] = {0};
+        if (kind != KINDS && kind != op->kind) continue;
+        if (is_tag(op->kind)) tag_numbers(op, &calls, seen);
+        for (int i = 0; !is_tag(op->kind) && i < NS; i++)
+            for (int j = 0; j < LS; j++) {
                 size_t block = 16 * ns[i].as, keys[4], starts[4], sources[6];
                 int key_count = around(8 * ns[i].as * ls[j].as, keys), start_count = op->kind == BLOCK ? 1 : around(block, starts);
                 int source_count = around(block, sources);
@@ -267,18 +384,51 @@ static long numbers(const struct op *ops)
                             }
                         }
             }
-        for (int number = 0; number <= 6; number++) {
-            int given = number == 6 ? op->kind != BLOCK : number == 4 ? op->kind != CTR : 1;
+        for (int number = 0; number <= 11; number++) {
+            /* a bit for each number that a kind gives: tags 0, 2, 3 and 11 */
+            static const int given_by[KINDS] = {[BLOCK] = 0x3F, [CBC] = 0x7F, [CTR] = 0x6F, [CMAC] = 0x80D, [VERIFY] = 0x80D};
+            int given = given_by[op->kind] >> number & 1;
             if (given != (seen[number] > 0)) wrong("%s: the grid has %ld calls with the number %d", op->name, seen[number], number);
         }
     }
     return calls;
 }
 
-/* NULL for a page of no bytes, by name. */
+/* One length too long by 2^32, so right once bits are lost, of memory that can't be written. How many calls. */
+static long far_lengths(const struct op *ops)
+{
+    static const size_t far = (size_t)1 << 32, l = 4;
+    long calls = 0;
+    uint8_t *at = mmap(NULL, far + ROOM, PROT_READ, MAP_PRIVATE | MAP_ANONYMOUS | MAP_NORESERVE, -1, 0);
+    if (at == MAP_FAILED) stop("mmap");
+    for (const struct op *op = ops; op < ops + OPS; op++)
+        for (int b = 0; b < BUFFERS; b++) {
+            if (!has(op->kind, (enum buffer)b) || (is_tag(op->kind) && b != KEY && b != (int)tag_of(op->kind))) continue;
+            struct call c = {.n = 1, .l = l, .len = {8 * l, 16, 16, op->kind == VERIFY ? 1 : 16}};
+            for (int i = 0; i < BUFFERS; i++) c.at[i] = plain[i];
+            c.at[b] = at;
+            c.len[b] += far;
+            plain[DST][0] = 1;
+            uint8_t expected = number_of(op->kind, &c), number = run(op, &c);
+            if (expected == 0 || number != expected) wrong(CALL_TEXT "%d, not %d", CALL(op, &c), number, expected);
+            if (op->kind == VERIFY && plain[DST][0] != 0) wrong(CALL_TEXT "a refusal, and *yes is not 0", CALL(op, &c));
+            calls++;
+        }
+    munmap(at, far + ROOM);
+    return calls;
+}
+
+/* NULL for a page, a message or a tag of no bytes, by name. */
 static void no_bytes(void)
 {
     static const uint8_t zeros[128];
+    uint8_t tag[16], yes = 0xAA;
+    for (size_t l = 2; l <= 4; l++) {
+        if (labyrinth_cmac(l, zeros, 8 * l, NULL, 0, tag, sizeof tag) != 0) wrong("cmac: NULL, 0 bytes");
+        if (labyrinth_cmac_verify(l, zeros, 8 * l, NULL, 0, tag, sizeof tag, &yes) != 0 || yes != 1) wrong("cmac_verify: NULL, 0 bytes");
+        if (labyrinth_cmac(l, zeros, 8 * l, NULL, 0, NULL, 0) != 11) wrong("cmac: NULL, a tag of 0 bytes");
+        if (labyrinth_cmac_verify(l, zeros, 8 * l, NULL, 0, NULL, 0, &yes) != 11 || yes != 0) wrong("cmac_verify: NULL, a tag of 0 bytes");
+    }
     for (size_t n = 1; n <= 4; n *= 2)
         for (size_t l = 2; l <= 4; l++) {
             if (labyrinth_cbc_seal(n, l, zeros, 8 * n * l, zeros, 16 * n, NULL, 0, NULL, 0) != 0) wrong("cbc_seal: NULL, 0 bytes");
@@ -336,6 +486,58 @@ static void runs(size_t blocks)
         wrong("labyrinth_mix: not document 01's words");
 }
 
+/* Tags for messages of so many bytes: each length made, verified, and verified again with each single bit altered. How many bits. */
+static long tags(const struct op *ops, size_t len)
+{
+    enum { MOST = 1 << 14, LEAST_TAG = 7, MOST_TAG = 17 };
+    static uint8_t msg[MOST];
+    uint8_t key[32], whole[MOST_TAG], tag[MOST_TAG], yes;
+    long bits = 0;
+    for (size_t l = 2; l <= 4; l++) {
+        fill(key, 8 * l);
+        fill(msg, len);
+        fill(whole, sizeof whole);
+        cmac(l, key, msg, len, whole);
+        for (size_t tag_len = LEAST_TAG; tag_len <= MOST_TAG; tag_len++) {
+            int expected = tag_len < 8 || tag_len > 16 ? 11 : 0;
+            struct call make = {.n = 1, .l = l, .at = {key, NULL, msg, tag}, .len = {8 * l, 0, len, tag_len}};
+            struct call verify = {.n = 1, .l = l, .at = {key, tag, msg, &yes}, .len = {8 * l, tag_len, len, 1}};
+            for (size_t i = 0; i < sizeof tag; i++) tag[i] = (uint8_t)~whole[i];
+            if (run(&ops[MAKES], &make) != expected) wrong("l %zu, %zu bytes: a tag of %zu bytes has another number", l, len, tag_len);
+            for (size_t i = 0; i < sizeof tag; i++)
+                if (tag[i] != (expected == 0 && i < tag_len ? whole[i] : (uint8_t)~whole[i]))
+                    wrong("l %zu, %zu bytes: byte %zu of a tag of %zu bytes", l, len, i, tag_len);
+            memcpy(tag, whole, sizeof tag);
+            for (int held = 1; held <= 0xAA; held += 0xAA - 1) {
+                yes = (uint8_t)held;
+                if (run(&ops[VERIFIES], &verify) != expected || yes != (expected == 0))
+                    wrong("l %zu, %zu bytes: a tag of %zu bytes is not verified", l, len, tag_len);
+            }
+            for (size_t bit = 0; bit < 8 * tag_len; bit++, bits++) {
+                tag[bit / 8] ^= (uint8_t)(1 << bit % 8);
+                yes = bit % 3 ? 1 : 0xAA;
+                if (run(&ops[VERIFIES], &verify) != expected || yes != 0)
+                    wrong("l %zu, %zu bytes: a tag of %zu bytes with bit %zu altered: *yes is %d", l, len, tag_len, bit, yes);
+                tag[bit / 8] ^= (uint8_t)(1 << bit % 8);
+            }
+        }
+    }
+    return bits;
+}
+
+/* The same over lengths about those of blocks, and long ones. */
+static long all_tags(const struct op *ops)
+{
+    static const size_t lengths[] = {0, 1, 15, 16, 17, 31, 32, 33, 1000, 8192 + 5};
+    long bits = 0, each = 3 * 8 * (7 + 8 + 9 + 10 + 11 + 12 + 13 + 14 + 15 + 16 + 17);
+    for (size_t i = 0; i < sizeof lengths / sizeof *lengths; i++) {
+        long more = tags(ops, lengths[i]);
+        if (more != each) wrong("%ld bits of tags altered, not %ld", more, each);
+        bits += more;
+    }
+    return bits;
+}
+
 /* ---- stack: a call on a painted stack of its own; what it used is from the caller's stack pointer at the call to the lowest byte that
  * lost its paint, by two paints */
 
@@ -369,6 +571,18 @@ static uint8_t top_ctr(size_t n, size_t l, const uint8_t *k, size_t kl, const ui
     NOTE_TOP();
     return 0;
 }
+static uint8_t top_cmac(size_t l, const uint8_t *k, size_t kl, const uint8_t *m, size_t ml, uint8_t *t, size_t tl)
+{
+    (void)l, (void)k, (void)kl, (void)m, (void)ml, (void)t, (void)tl;
+    NOTE_TOP();
+    return 0;
+}
+static uint8_t top_verify(size_t l, const uint8_t *k, size_t kl, const uint8_t *m, size_t ml, const uint8_t *t, size_t tl, uint8_t *y)
+{
+    (void)l, (void)k, (void)kl, (void)m, (void)ml, (void)t, (void)tl, (void)y;
+    NOTE_TOP();
+    return 0;
+}
 static uint64_t top_mix(uint64_t word)
 {
     NOTE_TOP();
@@ -396,7 +610,8 @@ static void over_there(int paint)
 
 static size_t stack_of(const struct op *op, const struct call *c, mix_fn *mix)
 {
-    static const struct op tops[] = {{"", BLOCK, top_block, 0, 0, 0}, {"", CBC, 0, top_cbc, 0, 0}, {"", CTR, 0, 0, top_ctr, 0}};
+    static const struct op tops[KINDS] = {{"", BLOCK, 0, {.block = top_block}}, {"", CBC, 0, {.cbc = top_cbc}}, {"", CTR, 0, {.ctr = top_ctr}},
+                                          {"", CMAC, 0, {.cmac = top_cmac}}, {"", VERIFY, 0, {.verify = top_verify}}};
     size_t used = 0;
     there_call = c;
     there_op = op ? &tops[op->kind] : NULL;
@@ -422,26 +637,27 @@ static size_t stack(const struct op *ops, int large, size_t *each)
     size_t most = each[OPS] = stack_of(NULL, NULL, labyrinth_mix);
     for (int o = 0; o < OPS; o++) {
         each[o] = 0;
-        for (size_t n = 0; n <= 4; n += n ? n : 1)
+        enum kind kind = ops[o].kind;
+        for (size_t n = is_tag(kind); n <= (is_tag(kind) ? 1 : 4); n += n ? n : 1)
             for (size_t l = 2; l <= 5; l++)
                 for (size_t i = 0; i < sizeof lengths / sizeof *lengths - !large; i++) {
-                    size_t len = ops[o].kind == BLOCK ? 16 * n : lengths[i];
+                    size_t len = kind == BLOCK ? 16 * n : lengths[i];
                     struct call c = {.n = n, .l = l, .q = 1, .at = {bytes[0], bytes[0] + 512, bytes[0], bytes[1]},
-                                     .len = {8 * n * l, 16 * n, len, len}};
+                                     .len = {8 * n * l, 16 * n, len, kind == CMAC ? 16 : kind == VERIFY ? 1 : len}};
                     size_t used = stack_of(&ops[o], &c, NULL);
                     if (used > LABYRINTH_STACK)
                         wrong("%s: n %zu, l %zu, %zu bytes: %zu bytes of stack, and the header says %d", ops[o].name, n, l, len, used,
                               LABYRINTH_STACK);
                     if (used > each[o]) each[o] = used;
-                    if (ops[o].kind == BLOCK) break;
+                    if (kind == BLOCK) break;
                 }
         if (each[o] > most) most = each[o];
     }
     return most;
 }
 
-/* ---- lent memory: each buffer in pages of its own between two that cannot be touched, flush against one of them; key, start and src
- * can only be read while the call runs */
+/* ---- lent memory: each buffer in pages of its own between two that cannot be touched, flush against one of them; all but DST can only
+ * be read while the call runs */
 
 enum { LENT_PAGES = 5, PLACE_END = 0, PLACE_START = 1, PLACE_ANY = 2 };
 static size_t page, lent_size;
@@ -483,19 +699,21 @@ static void memory_case(const struct op *ops, int place)
     if (!margins && !(margins = malloc(lent_size))) stop("malloc");
     size_t o = below(OPS);
     const struct op *op = &ops[o];
-    size_t n = (size_t)1 << below(3), l = 2 + below(3);
+    int tag = is_tag(op->kind);
+    size_t n = tag ? 1 : (size_t)1 << below(3), l = 2 + below(3);
     struct call c = {.n = n, .l = l, .q = below(2) ? next() : below(3)};
     c.len[KEY] = 8 * n * l;
-    c.len[START] = op->kind == BLOCK ? 0 : 16 * n;
+    c.len[START] = has(op->kind, START) ? 16 * n : 0;
     c.len[SRC] = op->kind == BLOCK ? 16 * n : some_length();
     if (op->kind == CBC) c.len[SRC] -= c.len[SRC] % (16 * n);
-    c.len[DST] = c.len[SRC];
+    c.len[DST] = op->kind == VERIFY ? 1 : c.len[SRC];
+    if (tag) c.len[tag_of(op->kind)] = 8 + below(9);
     switch (below(16)) { /* now and then something does not fit */
     case 0: c.len[KEY] = below(200); break;
-    case 1: if (op->kind != BLOCK) c.len[START] = below(100); break;
+    case 1: if (has(op->kind, START)) c.len[START] = below(100); break;
     case 2: c.len[SRC] = below(200); break;
-    case 3: c.len[DST] = below(200); break;
-    case 4: c.n = illegal[below(5)]; break;
+    case 3: if (op->kind != VERIFY) c.len[DST] = below(200); break;
+    case 4: if (tag) c.len[tag_of(op->kind)] = below(20); else c.n = illegal[below(5)]; break;
     case 5: c.l = illegal[below(2) ? 4 : 2]; break;
     default: break;
     }
@@ -504,27 +722,34 @@ static void memory_case(const struct op *ops, int place)
         c.at[b] = at_start ? lent[b] : lent[b] + lent_size - c.len[b];
         fill(c.at[b], c.len[b]);
         if (c.len[b] == 0 && place == PLACE_ANY && below(2)) c.at[b] = NULL;
-        if (b != DST && mprotect(lent[b], lent_size, PROT_READ) != 0) stop("mprotect");
     }
     uint8_t expected = number_of(op->kind, &c);
+    if (op->kind == VERIFY) { /* mostly the message's tag, now and then with one bit altered */
+        uint8_t whole[16];
+        *c.at[DST] = below(2) ? 1 : 0xAA;
+        if (c.len[KEY] >= 8 * l) cmac(l, c.at[KEY], c.at[SRC], c.len[SRC], whole);
+        if (c.len[KEY] >= 8 * l && c.len[START]) memcpy(c.at[START], whole, c.len[START] < 16 ? c.len[START] : 16);
+        if (c.len[START] && below(3) == 0) c.at[START][below(c.len[START])] ^= (uint8_t)(1 << below(8));
+    }
+    for (int b = 0; b < DST; b++)
+        if (mprotect(lent[b], lent_size, PROT_READ) != 0) stop("mprotect");
     memcpy(margins, lent[DST], lent_size);
     uint8_t number = run(op, &c);
     for (int b = 0; b < DST; b++)
         if (mprotect(lent[b], lent_size, PROT_READ | PROT_WRITE) != 0) stop("mprotect");
-    if (number != expected)
-        wrong("%s: n %zu, l %zu, lengths %zu %zu %zu %zu: %d, not %d", op->name, c.n, c.l, c.len[KEY], c.len[START], c.len[SRC], c.len[DST],
-              number, expected);
-    /* outside the destination nothing is written, and after a refusal nothing in it */
-    size_t from = c.at[DST] ? (size_t)(c.at[DST] - lent[DST]) : 0, to = from + (number == 0 ? c.len[DST] : 0);
+    if (number != expected) wrong(CALL_TEXT "%d, not %d", CALL(op, &c), number, expected);
+    /* outside the destination nothing is written, and after a refusal nothing in it, unless it is *yes */
+    size_t from = c.at[DST] ? (size_t)(c.at[DST] - lent[DST]) : 0, to = from + (number == 0 || op->kind == VERIFY ? c.len[DST] : 0);
     if (memcmp(lent[DST], margins, from) != 0 || memcmp(lent[DST] + to, margins + to, lent_size - to) != 0)
-        wrong("%s: n %zu, l %zu, lengths %zu %zu %zu %zu: number %d, and bytes written that are not the destination's", op->name, c.n, c.l,
-              c.len[KEY], c.len[START], c.len[SRC], c.len[DST], number);
+        wrong(CALL_TEXT "number %d, and bytes written that are not the destination's", CALL(op, &c), number);
+    if (tag && !tag_right(op->kind, &c)) wrong(CALL_TEXT "number %d, and the tag or *yes is wrong", CALL(op, &c), number);
     if (number != 0) return;
-    /* the same in memory of any kind; and undone there it is the source */
+    /* the same in memory of any kind; and undone there it is the source, if it is no tag */
     struct call plainly = c;
     plainly.at[DST] = copy[0];
     if (run(op, &plainly) != 0 || memcmp(copy[0], lent[DST] + from, c.len[DST]) != 0)
         wrong("%s: n %zu, l %zu, %zu bytes: another answer in other memory", op->name, n, l, c.len[SRC]);
+    if (tag) return;
     plainly.at[SRC] = copy[0];
     plainly.at[DST] = copy[1];
     if (run(&ops[op->back], &plainly) != 0 || (c.len[SRC] && memcmp(copy[1], c.at[SRC], c.len[SRC]) != 0))
@@ -562,15 +787,21 @@ static void notice(int as_it_should, const char *what, const char *where)
     if (!as_it_should) wrong("a stub that %s %s is not told as it should be", what, where);
 }
 
-/* Whether the calls on lent memory and the numbers both find fault with the stubs; what they find is neither counted nor printed. */
-static int both_notice(uint64_t seed, int cases)
+/* Whether the calls on lent memory and the numbers, and the tags if it is about tags, all find fault with the stubs; what they find is
+ * neither counted nor printed. */
+static int all_notice(uint64_t seed, int cases, int about_tags)
 {
     long kept = failures;
     quiet = 1;
-    int died = memory(stubs, seed, cases, PLACE_ANY);
+    int found = memory(stubs, seed, cases, PLACE_ANY) == -1;
     failures = 0;
-    numbers(stubs);
-    int found = died == -1 && failures > 0;
+    numbers(stubs, stub.kind);
+    found = found && failures > 0;
+    failures = 0;
+    if (about_tags) {
+        tags(stubs, 5);
+        found = found && failures > 0;
+    }
     failures = kept;
     quiet = 0;
     return found;
@@ -578,36 +809,52 @@ static int both_notice(uint64_t seed, int cases)
 
 static void try_stubs(uint64_t seed)
 {
-    enum { CASES = 200 };
+    enum { CASES = 150, MORE = 6 * CASES };
+    static const struct { int what; enum kind kind; const char *does; } tag_stubs[] = {
+        {CALLS_3, CMAC, "calls 11 3"}, {CALLS_3, VERIFY, "calls 11 3"}, {ALTERS, CMAC, "alters a bit of the tag"},
+        {SAYS_YES, VERIFY, "always says yes"}, {SAYS_NO, VERIFY, "always says no"}, {LOOKS_AT_8, VERIFY, "looks at 8 bytes"},
+        {KEEPS, VERIFY, "leaves yes as it was on refusal"}, {TOUCHES, CMAC, "touches the tag on refusal"},
+        {TOUCHES, VERIFY, "says yes on refusal"},
+    };
     size_t each[OPS + 1];
-    long kept = failures, found;
+    long kept;
     stub.what = HONEST;
+    stub.kind = KINDS;
     for (int place = PLACE_END; place <= PLACE_ANY; place++)
         notice(memory(stubs, seed, CASES, place) == 0, "does as the library does on", "lent memory");
-    for (int b = 0; b < BUFFERS; b++) {
-        stub.which = (enum buffer)b;
-        stub.what = PAST; /* crashes where the buffer is flush at its end, and not where it is flush at its start */
-        notice(memory(stubs, seed, CASES, PLACE_END) == SIGSEGV, "reads one byte past", buffer_names[b]);
-        notice(memory(stubs, seed, CASES, PLACE_START) == 0, "reads one byte past, flush at the start,", buffer_names[b]);
-        stub.what = BEFORE;
-        notice(memory(stubs, seed, CASES, PLACE_START) == SIGSEGV, "reads one byte before", buffer_names[b]);
-        notice(memory(stubs, seed, CASES, PLACE_END) == 0, "reads one byte before, flush at the end,", buffer_names[b]);
-        stub.what = WRITES;
-        for (int place = PLACE_END; b != DST && place <= PLACE_START; place++)
-            notice(memory(stubs, seed, CASES, place) == SIGSEGV, "writes to", buffer_names[b]);
-    }
+    for (int k = 0; k < KINDS; k++)
+        for (int b = 0; b < BUFFERS; b++) {
+            if (!has((enum kind)k, (enum buffer)b)) continue;
+            stub.kind = (enum kind)k;
+            stub.which = (enum buffer)b;
+            stub.what = PAST; /* crashes where the buffer is flush at its end, and not where it is flush at its start */
+            notice(memory(stubs, seed, CASES, PLACE_END) == SIGSEGV, "reads one byte past", buffer_names[b]);
+            notice(memory(stubs, seed, CASES, PLACE_START) == 0, "reads one byte past, flush at the start,", buffer_names[b]);
+            stub.what = BEFORE;
+            notice(memory(stubs, seed, CASES, PLACE_START) == SIGSEGV, "reads one byte before", buffer_names[b]);
+            notice(memory(stubs, seed, CASES, PLACE_END) == 0, "reads one byte before, flush at the end,", buffer_names[b]);
+            stub.what = WRITES;
+            for (int place = PLACE_END; b != DST && place <= PLACE_START; place++)
+                notice(memory(stubs, seed, CASES, place) == SIGSEGV, "writes to", buffer_names[b]);
+        }
+    stub.kind = KINDS;
     stub.what = TOUCHES;
-    notice(both_notice(seed, CASES), "touches the destination", "on refusal");
+    notice(all_notice(seed, MORE, 0), "touches the destination", "on refusal");
     stub.what = SWAPS;
-    notice(both_notice(seed, CASES * 5), "exchanges 4 and 5", "");
+    notice(all_notice(seed, MORE, 0), "exchanges 4 and 5", "");
+    for (size_t i = 0; i < sizeof tag_stubs / sizeof *tag_stubs; i++) {
+        stub.kind = tag_stubs[i].kind;
+        stub.what = tag_stubs[i].what;
+        notice(all_notice(seed, MORE, 1), tag_stubs[i].does, "");
+    }
+    stub.kind = KINDS;
+    kept = failures;
     quiet = 1;
     stub.what = DEEP;
-    failures = 0;
     stack(stubs, 0, each);
-    found = failures;
     failures = kept;
     quiet = 0;
-    notice(found > 0, "uses more stack", "");
+    for (int o = 0; o < OPS; o++) notice(each[o] > LABYRINTH_STACK, "uses more stack:", stubs[o].name);
 }
 
 int main(int count, char **words)
@@ -628,11 +875,14 @@ int main(int count, char **words)
         }
     lend();
     chance = seed;
-    long calls = numbers(library);
+    enum { CALLS = 190102 };
+    long calls = numbers(library, KINDS) + far_lengths(library);
+    if (calls != CALLS) wrong("%ld numbers tried, not %d", calls, CALLS);
     no_bytes();
     for (size_t i = 0; i < 20; i++) runs(i);
     runs(300); /* over 8 KiB at n = 2 and 4, where the eight tables are used */
     runs(511);
+    long bits = all_tags(library);
     size_t each[OPS + 1], most = stack(library, large, each);
     long cases = large ? 500000 : 10000;
     for (int place = PLACE_END; place <= PLACE_ANY; place++) {
@@ -644,7 +894,7 @@ int main(int count, char **words)
         for (int o = 0; o < OPS; o++) printf("c_interface: %s: %zu bytes of stack\n", library[o].name, each[o]);
         printf("c_interface: labyrinth_mix: %zu bytes of stack\n", each[OPS]);
     }
-    printf("c_interface: %ld numbers, %zu bytes of stack of the header's %d, %ld calls on lent memory (seed %" PRIu64 "), %d trials of stubs: "
-           "%ld wrong\n", calls, most, LABYRINTH_STACK, 3 * cases, seed, noticed, failures);
+    printf("c_interface: %ld numbers, %ld bits of tags altered, %zu bytes of stack of the header's %d, %ld calls on lent memory (seed %" PRIu64
+           "), %d trials of stubs: %ld wrong\n", calls, bits, most, LABYRINTH_STACK, 3 * cases, seed, noticed, failures);
     return failures != 0;
 }

@@ -31,7 +31,7 @@ contents() {
     echo "writable $(readelf -SW "$1" | sed 's/^ *\[ *[0-9]*\] *//' | awk '$7 ~ /W/ { print $1 }' | sort -u | xargs)"
 }
 cat >"$work/contents" <<'END'
-offers labyrinth_cbc_open labyrinth_cbc_seal labyrinth_ctr labyrinth_decipher labyrinth_encipher labyrinth_mix
+offers labyrinth_cbc_open labyrinth_cbc_seal labyrinth_cmac labyrinth_cmac_verify labyrinth_ctr labyrinth_decipher labyrinth_encipher labyrinth_mix
 needs memcpy memset
 writable 
 END
@@ -66,48 +66,61 @@ import modes
 
 with open(sys.argv[1]) as file:
     said = dict(line.rstrip("\n").split(": ", 1) for line in file)
-cipher = labyrinth.Labyrinth(2, bytes.fromhex(said["key"]))
-cbc = modes.cbc_encrypt(cipher, bytes.fromhex(said["cbc start"]), said["cbc page"].encode())
-ctr = modes.ctr_crypt(cipher, bytes.fromhex(said["ctr start"]), int(said["ctr q"]), said["ctr page"].encode())
-sys.exit((cbc.hex(), ctr.hex()) != (said["cbc sealed"], said["ctr sealed"]))
+cipher, tagger = labyrinth.Labyrinth(2, bytes.fromhex(said["key"])), labyrinth.Labyrinth(1, bytes.fromhex(said["tag key"]))
+starts = [bytes.fromhex(said[kind + " start"]) for kind in ("cbc", "ctr")]
+cbc = modes.cbc_encrypt(cipher, starts[0], said["cbc page"].encode())
+ctr = modes.ctr_crypt(cipher, starts[1], int(said["ctr q"]), said["ctr page"].encode())
+tags = [modes.cmac(tagger, start + sealed) for start, sealed in zip(starts, (cbc, ctr))]
+made = [bytes.fromhex(said[name]) for name in ("cbc sealed", "ctr sealed", "cbc tag", "ctr tag")]
+answers = [said[name] for name in ("cbc genuine", "ctr genuine", "ctr altered genuine")]
+sys.exit(made != [cbc, ctr, *tags] or answers != ["yes", "yes", "no"])
 END
 }
-agrees "$work/printed" || wrong "the example's sealed pages are not the archivists'"
-for line in 'cbc sealed' 'ctr sealed'; do
-    awk -v line="$line" -F ': ' '$1 == line { $0 = $1 ": " (substr($2, 1, 1) == "0" ? "1" : "0") substr($2, 2) } { print }' "$work/printed" >"$work/altered"
-    ! agrees "$work/altered" 2>/dev/null || wrong "an altered page passed as the archivists' ($line)"
+agrees "$work/printed" || wrong "the example's sealed pages, tags and answers are not the archivists'"
+for line in 'cbc sealed' 'ctr sealed' 'cbc tag' 'ctr tag' 'cbc genuine' 'ctr genuine' 'ctr altered genuine'; do
+    awk -v line="$line" -F ': ' '$1 == line { $0 = $1 ": " ($2 == "yes" ? "no" : $2 == "no" ? "yes" : (substr($2, 1, 1) == "0" ? "1" : "0") substr($2, 2)) }
+        { print }' "$work/printed" >"$work/altered"
+    ! cmp -s "$work/printed" "$work/altered" || wrong "the example has no line '$line'"
+    ! agrees "$work/altered" || wrong "an altered line passed as the archivists' ($line)"
 done
-# the example over functions of which one spoils a byte or refuses: it fails then, and else prints the same
+# the example over functions of which one spoils a byte of what it gives or refuses: it fails then, and else prints the same
 cat >"$work/spoil.c" <<'END'
 #include <stdlib.h>
 #include <string.h>
 #include "labyrinth.h"
-#define WRAP(name, parameters, arguments) \
+#define WRAP(name, made, parameters, arguments) \
     uint8_t __real_##name parameters; \
     uint8_t __wrap_##name parameters; \
     uint8_t __wrap_##name parameters \
     { \
         uint8_t number = __real_##name arguments; \
-        if (strcmp(getenv("SPOILS"), #name) == 0) dst[0] = 0; \
+        if (strcmp(getenv("SPOILS"), #name) == 0) (made)[0] = (uint8_t)atoi(getenv("WITH")); \
         return strcmp(getenv("REFUSES"), #name) == 0 ? 5 : number; \
     }
-#define FRONT size_t n, size_t l, const uint8_t *key, size_t key_len, const uint8_t *start, size_t start_len
+#define KEY size_t l, const uint8_t *key, size_t key_len
+#define FRONT size_t n, KEY, const uint8_t *start, size_t start_len
 #define BACK const uint8_t *src, size_t src_len, uint8_t *dst, size_t dst_len
-WRAP(labyrinth_cbc_seal, (FRONT, BACK), (n, l, key, key_len, start, start_len, src, src_len, dst, dst_len))
-WRAP(labyrinth_cbc_open, (FRONT, BACK), (n, l, key, key_len, start, start_len, src, src_len, dst, dst_len))
-WRAP(labyrinth_ctr, (FRONT, uint64_t q, BACK), (n, l, key, key_len, start, start_len, q, src, src_len, dst, dst_len))
+#define MESSAGE KEY, const uint8_t *msg, size_t msg_len
+WRAP(labyrinth_cbc_seal, dst, (FRONT, BACK), (n, l, key, key_len, start, start_len, src, src_len, dst, dst_len))
+WRAP(labyrinth_cbc_open, dst, (FRONT, BACK), (n, l, key, key_len, start, start_len, src, src_len, dst, dst_len))
+WRAP(labyrinth_ctr, dst, (FRONT, uint64_t q, BACK), (n, l, key, key_len, start, start_len, q, src, src_len, dst, dst_len))
+WRAP(labyrinth_cmac, tag, (MESSAGE, uint8_t *tag, size_t tag_len), (l, key, key_len, msg, msg_len, tag, tag_len))
+WRAP(labyrinth_cmac_verify, yes, (MESSAGE, const uint8_t *tag, size_t tag_len, uint8_t *yes), (l, key, key_len, msg, msg_len, tag, tag_len, yes))
 END
-gcc -std=c99 $warnings -I target/dist -Wl,--wrap=labyrinth_cbc_seal,--wrap=labyrinth_cbc_open,--wrap=labyrinth_ctr \
-    examples/page.c "$work/spoil.c" "$archive" -o "$work/spoilt" || wrong "the example over spoilt functions"
+spoilt="labyrinth_cbc_seal labyrinth_cbc_open labyrinth_ctr labyrinth_cmac labyrinth_cmac_verify"
+gcc -std=c99 $warnings -I target/dist $(printf ' -Wl,--wrap=%s' $spoilt) examples/page.c "$work/spoil.c" "$archive" -o "$work/spoilt" ||
+    wrong "the example over spoilt functions"
 SPOILS='' REFUSES='' "$work/spoilt" | cmp - "$work/printed" || wrong "the example prints something else over functions that spoil nothing"
-for name in labyrinth_cbc_seal labyrinth_cbc_open labyrinth_ctr; do
-    SPOILS=$name REFUSES='' "$work/spoilt" >/dev/null 2>&1
-    [ $? -eq 1 ] || wrong "the example passed over a spoilt $name"
+for name in $spoilt; do
+    for with in 0 1; do # for cmac_verify: always a no, always a yes
+        SPOILS=$name WITH=$with REFUSES='' "$work/spoilt" >/dev/null 2>&1
+        [ $? -eq 1 ] || wrong "the example passed over a $name spoilt with $with"
+    done
     SPOILS='' REFUSES=$name "$work/spoilt" >/dev/null 2>&1
     [ $? -eq 1 ] || wrong "the example passed over a refusing $name"
 done
 
-# ---- numbers, NULL, stack, lent memory
+# ---- numbers, NULL, runs and tags, stack, lent memory
 gcc -std=gnu11 -O2 $warnings -Wl,-z,now -I target/dist tests/c_interface.c "$archive" -o "$work/c_interface" || { echo "c_interface: not compiled"; exit 1; }
 "$work/c_interface" "$@" || wrong "tests/c_interface.c failed"
 [ $status -eq 0 ] || echo "c_interface: FAILED"
