@@ -24,6 +24,10 @@ def cipher(n, l, key):
 def answer(op, *fields):
     if op == "mix":
         return f"{labyrinth.cmbn_poly(int(fields[0], 16)):016x}"
+    if op in ("cmac", "cmac_verify"):
+        l, key, message, tag = fields
+        made = modes.cmac(cipher(1, l, key), data(message), len(data(tag)))
+        return f"0 {made.hex()}" if op == "cmac" else f"0 {int(made == data(tag))}"
     n, l, key, *rest = fields
     c = cipher(n, l, key)
     if op == "encipher":

@@ -5,8 +5,9 @@ docs/COMPARE.md has the lines that they speak. Needs target/dist (make lib) and 
     tests/compare_c.py [--short] [--seed NUMBER] [--archivist COMMAND] [--show CASE]
 
 The cases are made from the seed, which is printed; without one it is another each time. Which number is expected is decided here, from
-document 01 (number_of); which bytes, by the archivists' program, or, after a refusal, by what the destination held. Then it shows that
-changed answers are noticed. --show prints the request of one case and asks nothing."""
+documents 01 and 02 (number_of); which bytes, by the archivists' program, or, after a refusal, by what the destination held; whether a tag
+gets a yes, by how it was made, with the modules in tests/archivists, and by the archivists' program. Then it shows that changed answers
+are noticed. --show prints the request of one case and asks nothing."""
 import argparse
 import collections
 import os
@@ -17,13 +18,18 @@ import sys
 import tempfile
 import time
 
+sys.dont_write_bytecode = True
 HERE = os.path.dirname(os.path.abspath(__file__))
+sys.path.insert(0, os.path.join(HERE, "archivists"))
+import labyrinth
+import modes
+
 DIST = os.path.join(os.path.dirname(HERE), "target", "dist")
 ADAPTER = f"{shlex.quote(sys.executable)} {shlex.quote(os.path.join(HERE, 'archivists_lines.py'))}"
 LIMIT = 1500  # seconds for a program
 
-BLOCKS, CBC, CTR = ("encipher", "decipher"), ("cbc_seal", "cbc_open"), ("ctr",)
-OPERATIONS = BLOCKS + CBC + CTR
+BLOCKS, CBC, CTR, TAGS = ("encipher", "decipher"), ("cbc_seal", "cbc_open"), ("ctr",), ("cmac", "cmac_verify")
+OPERATIONS = BLOCKS + CBC + CTR + TAGS
 SIZES = [(n, l) for n in (1, 2, 4) for l in (2, 3, 4)]
 LARGE = 2**64 - 1  # SIZE_MAX
 # some are legal once cut to 8, 16 or 32 bits, or give a legal 8n or 16n modulo 2^64
@@ -33,18 +39,33 @@ WRONG_L = (*(x for x in DEMANDED if x != 3), 1, 5, 6, 2**8 + 2, 2**16 + 3, 2**32
 # document 01: mixing 0x1, 0x100 and eight bytes 01
 MIXED = {0x1: 0x0C0F1F0A0F030101, 0x100: 0x0F1F0A0F0301010C, 0x0101010101010101: 0x1A1A1A1A1A1A1A1A}
 
-Case = collections.namedtuple("Case", "op n l key start q source destination")
+# a tag's message is the source, and the tag, made or given, the destination; n is 1; kind is how a given tag was made
+Case = collections.namedtuple("Case", "op n l key start q source destination kind", defaults=[None])
+KINDS = ("right", "one bit flipped", "right in the first bytes", "from the second byte on", "of another key", "of another message")
 Mix = collections.namedtuple("Mix", "op word")
 
 
+def sizes(op):
+    return SIZES[:3] if op in TAGS else SIZES
+
+
+def flipped(data, rng):
+    """With one bit changed."""
+    at = rng.randrange(len(data))
+    return data[:at] + bytes([data[at] ^ 1 << rng.randrange(8)]) + data[at + 1 :]
+
+
 def number_of(case):
-    """Document 01, 'Operations and what they turn away': expansion's numbers, then the operation's own, the first that applies."""
+    """Document 01, 'Operations and what they turn away', and document 02, Job 1: expansion's numbers, then the operation's own, the first
+    that applies."""
     if case.n not in (1, 2, 4):
         return 1
     if case.l not in (2, 3, 4):
         return 2
     if len(case.key) != 8 * case.n * case.l:
         return 3
+    if case.op in ("cmac", "cmac_verify"):
+        return 0 if 8 <= len(case.destination) <= 16 else 11
     block = 16 * case.n
     if case.op in ("encipher", "decipher"):
         if len(case.source) != block:
@@ -99,10 +120,28 @@ class Maker:
         lengths = [right - 1, right + 1, 0, right // 2, 2 * right, right - 8, right + 8, right + 16, right + 256, self.rng.randrange(300)]
         return self.pick(*(x for x in lengths if x >= 0 and x != right))
 
-    def case(self, op, n, l, source, damage=(), n_lengths=None, l_lengths=None):
+    def given(self, case, kind):
+        """The case with a tag of this kind, if its key is one."""
+        if case.l not in (2, 3, 4) or len(case.key) != 8 * case.l:
+            return case._replace(kind="of no key")
+        key, message, length = case.key, case.source, len(case.destination)
+        if kind == "of another key":
+            key = flipped(key, self.rng)
+        if kind == "of another message":
+            message = self.pick(message + b"\x80", message + b"\0", *([message[:-1], flipped(message, self.rng)] if message else []))
+        whole = modes.cmac(labyrinth.Labyrinth(1, key), message)
+        tag = (whole[1:] + whole[:1] if kind == "from the second byte on" else whole)[:length] + self.data(max(0, length - 16))
+        if kind == "one bit flipped" and tag:
+            tag = flipped(tag, self.rng)
+        if kind == "right in the first bytes":
+            keep = self.rng.randrange(min(8, max(length - 1, 0)), max(length, 1))
+            tag = tag[:keep] + bytes(byte ^ self.rng.randrange(1, 256) for byte in tag[keep:])
+        return case._replace(destination=tag, kind=kind)
+
+    def case(self, op, n, l, source, damage=(), n_lengths=None, l_lengths=None, tag=None, kind=None):
         """A case whose lengths are right for n and l, or for n_lengths and l_lengths, apart from what is damaged."""
         m, c = n_lengths or n, l_lengths or l
-        key, start = 8 * m * c, 0 if op in BLOCKS else 16 * m
+        key, start = 8 * m * c, 0 if op in BLOCKS + TAGS else 16 * m
         if "key" in damage:
             key = self.wrong(key)
         if "start" in damage:
@@ -110,10 +149,13 @@ class Maker:
         if "source" in damage:
             source = self.wrong(source) if op in BLOCKS else source + self.rng.randrange(1, 16 * m)
         destination = 16 * m if op in BLOCKS else source
+        if op in TAGS:
+            destination = self.rng.randrange(8, 17) if tag is None else tag
         if "destination" in damage:
-            destination = self.wrong(destination)
+            destination = self.pick(0, 1, 6, 7, 17, 18, 24, 32, 256 + destination) if op in TAGS else self.wrong(destination)
         q = self.q() if op in CTR else 0
-        return Case(op, n, l, self.data(key), self.start(op, start), q, self.data(source), self.data(destination))
+        made = Case(op, n, l, self.data(key), self.start(op, start), q, self.data(source), self.data(destination))
+        return self.given(made, kind or self.pick("right", "right", "right", *KINDS)) if op == "cmac_verify" else made
 
     def length(self, op, n, most):
         """A source's length that op admits."""
@@ -124,8 +166,9 @@ class Maker:
     def damaged(self):
         """Every set of damages at every size; the empty set is a valid case."""
         for op in OPERATIONS:
-            parts = ["n", "l", "key", "destination"] + ["start"] * (op not in BLOCKS) + ["source"] * (op not in CTR)
-            for n, l in SIZES:
+            own = [] if op in TAGS else ["n"] + ["start"] * (op not in BLOCKS) + ["source"] * (op not in CTR)
+            parts = ["l", "key", "destination"] + own
+            for n, l in sizes(op):
                 for which in range(2 ** len(parts)):
                     damage = [part for i, part in enumerate(parts) if which >> i & 1]
                     given = self.pick(*WRONG_N) if "n" in damage else n, self.pick(*WRONG_L) if "l" in damage else l
@@ -134,7 +177,7 @@ class Maker:
     def numbers(self):
         """Every wrong n with every l, and every wrong l: all lengths fit a size that such a number may be mistaken for."""
         for op in OPERATIONS:
-            for n in (1, 2, 4, *WRONG_N):
+            for n in (1,) if op in TAGS else (1, 2, 4, *WRONG_N):
                 for l in (2, 3, 4, *WRONG_L):
                     if n in WRONG_N or l in WRONG_L:
                         m = n if n <= 16 else n % 16 if n % 16 in (1, 2, 4) else self.pick(1, 2, 4)
@@ -144,60 +187,71 @@ class Maker:
     def far_lengths(self):
         """One length too long by 65,536."""
         for op in OPERATIONS:
-            for part in ("key", "start", "source", "destination"):
-                n, l = self.pick(*SIZES)
+            for part in ("key", "destination") if op in TAGS else ("key", "start", "source", "destination"):
+                n, l = self.pick(*sizes(op))
                 good = self.case(op, n, l, self.length(op, n, 3))
                 yield good._replace(**{part: getattr(good, part) + bytes(65536)})
 
     def valid(self):
         for op in OPERATIONS:
-            for n, l in SIZES:
+            for n, l in sizes(op):
                 for _ in self.some(150, 12):
                     yield self.case(op, n, l, self.length(op, n, 20))
 
     def near(self):
-        """Runs about 8 KiB long, where a program may change its way of working; and the empty run, one byte, one block and its neighbours."""
-        for op in CBC + CTR:
-            for n, l in SIZES:
+        """Runs about 8 KiB long, where a program may change its way of working, and tags of 4 KiB; and the empty run, one byte, one block
+        and its neighbours."""
+        for op in CBC + CTR + TAGS:
+            about = 4096 if op in TAGS else 8192
+            for n, l in sizes(op):
                 block = 16 * n
-                long = [8192 - block, 8192, 8192 + block] + [8191, 8193, 8192 + block - 1] * (op == "ctr")
-                for length in [8192, 8192 + block] if self.short else long:
+                long = [about - block, about, about + block] + [about - 1, about + 1, about + block - 1] * (op not in CBC)
+                for length in [about, about + block] if self.short else long:
                     yield self.case(op, n, l, length)
-                for length in [0, block, 2 * block] + [1, block - 1, block + 1, 2 * block + 1] * (op == "ctr"):
+                for length in [0, block, 2 * block] + [1, block - 1, block + 1, 2 * block - 1, 2 * block + 1] * (op not in CBC):
                     yield self.case(op, n, l, length)
 
+    def tags(self):
+        """Every length of a tag, refused ones too, made, and given in every kind, for messages of no block to three."""
+        for n, l in sizes("cmac"):
+            for length in range(20):
+                for op, kind in [("cmac", None), *(("cmac_verify", kind) for kind in (KINDS if 8 <= length <= 16 else KINDS[:1]))]:
+                    for _ in self.some(8, 1):
+                        yield self.case(op, n, l, self.rng.randrange(49), tag=length, kind=kind)
+
     def long(self):
-        for op in CBC + CTR:
-            for n, l in SIZES:
+        for op in CBC + CTR + TAGS:
+            for n, l in sizes(op):
                 for _ in self.some(1, 0):
                     yield self.case(op, n, l, self.length(op, n, 32768 // (16 * n)))
-            for n in (1, 2, 4) if not self.short else ():
+            for n in (1, 2, 4) if not self.short and op not in TAGS else ():
                 yield self.case(op, n, self.pick(2, 3, 4), 2**18 - 16 * n * self.rng.randrange(9) + self.rng.randrange(16) * (op == "ctr"))
 
     def anyhow(self):
         """Any damage at all."""
         for _ in self.some(1500, 150):
-            op, (n, l) = self.pick(*OPERATIONS), self.pick(*SIZES)
+            op = self.pick(*OPERATIONS)
+            n, l = self.pick(*sizes(op))
             damage = [part for part in ("key", "start", "source", "destination") if self.rng.randrange(6) == 0]
-            if op in BLOCKS:
+            if op in BLOCKS + TAGS:
                 damage = [part for part in damage if part != "start"]
             given = self.pick(n, n, n, n, n, n, *WRONG_N[:5], self.rng.getrandbits(64)), self.pick(l, l, l, l, l, l, *DEMANDED, self.rng.getrandbits(64))
-            yield self.case(op, *given, self.length(op, n, 6), damage, n, l)
+            yield self.case(op, n if op in TAGS else given[0], given[1], self.length(op, n, 6), damage, n, l)
 
     def words(self):
         for word in [*MIXED, 0, LARGE, *(1 << i for i in range(64)), *(self.rng.getrandbits(64) for _ in self.some(1000, 150))]:
             yield Mix("mix", word)
 
     def all(self):
-        for series in (self.damaged, self.numbers, self.far_lengths, self.valid, self.near, self.long, self.anyhow, self.words):
+        for series in (self.damaged, self.numbers, self.far_lengths, self.valid, self.near, self.tags, self.long, self.anyhow, self.words):
             yield from series()
 
 
 def request(case):
     if case.op == "mix":
         return f"mix {case.word:016x}\n"
-    fields = [case.op, case.n, case.l, case.key]
-    if case.op not in BLOCKS:
+    fields = [case.op] + [case.n] * (case.op not in TAGS) + [case.l, case.key]
+    if case.op in CBC + CTR:
         fields.append(case.start)
     if case.op in CTR:
         fields.append(case.q)
@@ -210,11 +264,14 @@ def gaps(cases, numbers):
     have = {(case.op, case.n, case.l, number) for case, number in zip(cases, numbers) if case.op != "mix"}
     need = set()
     for op in OPERATIONS:
-        own = {4, 5} if op in BLOCKS else {6, 5} if op in CTR else {6, 4, 5}
-        need |= {(op, n, l, number) for n, l in SIZES for number in {0, 3} | own}
-        need |= {(op, n, l, 2) for n in (1, 2, 4) for l in DEMANDED if l != 3}
-        need |= {(op, n, l, 1) for n in DEMANDED for l in (2, 3, 4)}
-    return sorted(need - have)
+        own = {11} if op in TAGS else {4, 5} if op in BLOCKS else {6, 5} if op in CTR else {6, 4, 5}
+        need |= {(op, n, l, number) for n, l in sizes(op) for number in {0, 3} | own}
+        need |= {(op, n, l, 2) for n, _ in sizes(op) for l in DEMANDED if l != 3}
+        need |= {(op, n, l, 1) for n in DEMANDED for l in (2, 3, 4) if op not in TAGS}
+    have |= {(case.op, case.l, len(case.destination), case.kind) for case in cases if case.op in TAGS}
+    need |= {("cmac_verify", l, length, kind) for l in (2, 3, 4) for length in range(8, 17) for kind in KINDS}
+    need |= {(op, l, length, kind) for op, kind in (("cmac", None), ("cmac_verify", "right")) for l in (2, 3, 4) for length in range(20)}
+    return sorted(need - have, key=str)
 
 
 # ---- asking
@@ -293,11 +350,16 @@ def difference(case, number, ours, theirs):
         except ValueError:
             return f"no words: {ours[:80]!r}, {theirs[:80]!r}"
         return None if len(set(values)) == 1 else f"ours {ours}, theirs {theirs}"
+    if case.op == "cmac_verify":
+        want = f"{number} {int(number == 0 and case.kind == 'right')}"
+        if number == 0 and theirs != want:
+            return f"theirs answers {theirs[:80]!r}, not {want!r}, to a tag that is {case.kind}"
+        return None if ours == want else f"ours answers {ours[:80]!r}, not {want!r}, to a tag that is {case.kind}"
     mine = read(ours)
     if mine is None:
         return f"ours answers {ours[:80]!r}"
     if mine[0] != number:
-        return f"ours gives the number {mine[0]}, document 01 {number}"
+        return f"ours gives the number {mine[0]}, the documents {number}"
     want = case.destination
     if number == 0:
         other = read(theirs)
@@ -317,8 +379,11 @@ def differences(cases, numbers, ours, theirs):
 
 def changed_byte(line, rng):
     number, data = read(line)
-    at = rng.randrange(len(data))
-    return f"{number} {(data[:at] + bytes([data[at] ^ 1 << rng.randrange(8)]) + data[at + 1:]).hex()}"
+    return f"{number} {flipped(data, rng).hex()}"
+
+
+def changed_number(line, number):
+    return f"{number} {line.split(' ')[1]}"
 
 
 def changed_word(line, rng):
@@ -337,19 +402,26 @@ def changed_answers(cases, numbers, ours, theirs, rng):
         those = [i for i, case in enumerate(cases) if case.op == op and case.destination]
         i = iter(rng.sample([i for i in those if numbers[i] == 0], 5))
         for side, name in ((theirs, "theirs"), (ours, "ours")):
+            if op != "cmac_verify":
+                at = next(i)
+                change(f"a byte of {name}", at, side, changed_byte(side[at], rng))
             at = next(i)
-            change(f"a byte of {name}", at, side, changed_byte(side[at], rng))
+            change(f"a number of {name}", at, side, changed_number(side[at], rng.randrange(1, 7)))
+        if op != "cmac_verify":
             at = next(i)
-            change(f"a number of {name}", at, side, f"{rng.randrange(1, 7)}{side[at][1:]}")
-        at = next(i)
-        change("a byte too few of theirs", at, theirs, theirs[at][:-2] if len(theirs[at]) > 4 else "0 -")
+            change("a byte too few of theirs", at, theirs, theirs[at][:-2] if len(theirs[at]) > 4 else "0 -")
         i = iter(rng.sample([i for i in those if numbers[i]], 3))
         at = next(i)
-        change("another refusal of ours", at, ours, f"{numbers[at] % 6 + 1}{ours[at][1:]}")
+        change("another refusal of ours", at, ours, changed_number(ours[at], numbers[at] % 6 + 1))
         at = next(i)
-        change("a refusal of ours called done", at, ours, f"0{ours[at][1:]}")
+        change("a refusal of ours called done", at, ours, changed_number(ours[at], 0))
         at = next(i)
-        change("a byte of a refused destination of ours", at, ours, changed_byte(ours[at], rng))
+        refused = f"{numbers[at]} 1" if op == "cmac_verify" else changed_byte(ours[at], rng)
+        change("what a refusal of ours left", at, ours, refused)
+    for right, answers in ((True, ("0 0", "0 0", "0 2", "1 1")), (False, ("0 1", "0 1", "0 170", "1 1"))):
+        tags = [i for i, case in enumerate(cases) if case.op == "cmac_verify" and numbers[i] == 0 and (case.kind == "right") == right]
+        for at, side, answer in zip(rng.sample([i for i in tags if i not in changed], 4), (theirs, ours, ours, ours), answers):
+            change(f"{side[at]} called {answer}", at, side, answer)
     i = iter(rng.sample([i for i, case in enumerate(cases) if case.op == "mix"], 2))
     for side, name in ((theirs, "theirs"), (ours, "ours")):
         at = next(i)

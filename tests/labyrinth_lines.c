@@ -121,6 +121,23 @@ static void run(char **fields, int is_ctr) {
     take_back(dst, 1);
 }
 
+/* fields: the operation, l, key, message, tag; what yes points to holds aa or 01 before the call */
+static void tag(char **fields) {
+    size_t l = number(fields[1]);
+    struct lent key = lend(fields[2]), msg = lend(fields[3]), given = lend(fields[4]), yes = lend(request / 2 % 2 ? "aa" : "01");
+    int makes = strcmp(fields[0], "cmac") == 0;
+    if (makes)
+        answer(labyrinth_cmac(l, key.pointer, key.length, msg.pointer, msg.length, given.pointer, given.length), given);
+    else {
+        uint8_t r = labyrinth_cmac_verify(l, key.pointer, key.length, msg.pointer, msg.length, given.pointer, given.length, yes.pointer);
+        printf("%u %u\n", r, *yes.bytes);
+    }
+    take_back(key, 0);
+    take_back(msg, 0);
+    take_back(given, makes);
+    take_back(yes, !makes);
+}
+
 int main(void) {
     char *line = NULL;
     size_t room = 0;
@@ -130,6 +147,7 @@ int main(void) {
         request++;
         for (char *f = strtok(line, " \n"); f && count <= FIELDS; f = strtok(NULL, " \n")) fields[count++] = f;
         if (count == 2 && strcmp(fields[0], "mix") == 0) mix(fields[1]);
+        else if (count == 5 && (strcmp(fields[0], "cmac") == 0 || strcmp(fields[0], "cmac_verify") == 0)) tag(fields);
         else if (count == 6 && (strcmp(fields[0], "encipher") == 0 || strcmp(fields[0], "decipher") == 0)) one_block(fields);
         else if (count == 7 && (strcmp(fields[0], "cbc_seal") == 0 || strcmp(fields[0], "cbc_open") == 0)) run(fields, 0);
         else if (count == 8 && strcmp(fields[0], "ctr") == 0) run(fields, 1);
