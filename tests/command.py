@@ -1,7 +1,7 @@
 #!/usr/bin/env python3
-"""Tries the command labyrinth (target/rust/release/labyrinth): the archivists' CBC and CTR vectors through files and standard streams,
+"""Tries the command labyrinth (target/rust/release/labyrinth): the archivists' CBC, CTR and CMAC vectors through files and standard streams,
 the page of its own help, every exit status and number, and that no run leaves a half-written OUT; then shows that one altered byte is
-noticed. Expected numbers are document 01's, expected bytes the archivists'."""
+noticed. Expected numbers are those of documents 01 and 02, expected bytes and tags the archivists'."""
 import json
 import os
 import pty
@@ -28,11 +28,21 @@ START = "ff" * 16
 MIB = 1 << 20
 OLD = b"what OUT held before"
 NOBODY = 65534
-COUNT = 1285
+COUNT = 1764
 
 
 class Wrong(Exception):
     pass
+
+
+def narrow():
+    """Less memory than a page of 64 MiB has."""
+    resource.setrlimit(resource.RLIMIT_AS, (32 * MIB, 32 * MIB))
+
+
+def somebody():
+    """Who may not read or write what is locked; a run by root takes nobody's place."""
+    return {"user": NOBODY, "group": NOBODY, "extra_groups": []} if os.getuid() == 0 else {}
 
 
 class Place:
@@ -58,21 +68,25 @@ class Place:
         with open(self.at(name), "rb") as file:
             return file.read()
 
+    def write_long(self):
+        with open(self.at("long"), "wb") as file:
+            file.truncate(64 * MIB)
+
     def names(self):
         return sorted(os.listdir(self.path))
 
     def start(self, words, **more):
         return subprocess.Popen([self.at("labyrinth"), *words], cwd=self.path, stderr=more.pop("stderr", subprocess.PIPE), **more)
 
-    def run(self, words, given=b"", **more):
+    def run(self, words, given=b"", program=None, **more):
         if "stdin" not in more:
             more["input"] = given
         more.setdefault("stdout", subprocess.PIPE)
-        return subprocess.run([self.at("labyrinth"), *words], cwd=self.path, stderr=subprocess.PIPE, timeout=60, **more)
+        return subprocess.run([program or self.at("labyrinth"), *words], cwd=self.path, stderr=subprocess.PIPE, timeout=60, **more)
 
     def fails(self, what, status, says, words, out="out", **more):
-        """The run ends with this status and message; OUT is what it was, once absent and once there; nothing else appears; the message
-        shows nothing of the key."""
+        """The run ends with this status and message; OUT is what it was, once absent and once there, or, where there is none, nothing went
+        to standard output; nothing else appears; the message shows nothing of the key."""
         for old in (None, OLD) if out == "out" else (None,):
             if old is not None:
                 self.write("out", old)
@@ -83,6 +97,8 @@ class Place:
                 raise Wrong(f"{what}: status {done.returncode}, not {status}: {message}")
             if not message.startswith("labyrinth: ") or says not in message:
                 raise Wrong(f"{what}: the message lacks '{says}': {message}")
+            if out is None and done.stdout:
+                raise Wrong(f"{what}: bytes on standard output")
             if any(KEY[i : i + 6] in message.lower() for i in range(len(KEY) - 5)):
                 raise Wrong(f"{what}: the message shows the key")
             self.untouched(what, before, old)
@@ -111,16 +127,31 @@ def words(way="seal", mode="ctr", n=1, l=2, key="key", start=START, q=None, name
     return [way, *options, *(["--offset", str(q)] if q is not None else []), *names]
 
 
+def tag_words(way="tag", l=2, key="key", value=None, names=("page",)):
+    """The value is --length's for tag, --tag's for verify."""
+    option = [] if value is None else ["--length" if way == "tag" else "--tag", str(value)]
+    return [way, "-l", str(l), "--key-file", key, *option, *names]
+
+
 def sealed(mode, data, q=0):
     cipher, start = labyrinth.Labyrinth(1, bytes.fromhex(KEY)), bytes.fromhex(START)
     return modes.cbc_encrypt(cipher, start, data) if mode == "cbc" else modes.ctr_crypt(cipher, start, q, data)
 
 
-def vector_cases():
+def tag_of(data, length=16):
+    return modes.cmac(labyrinth.Labyrinth(1, bytes.fromhex(KEY)), data, length).hex()
+
+
+def archivists_vectors():
     with open(os.path.join(HERE, "archivists", "vectors.json")) as file:
         found = json.load(file)
-    if (len(found["cbc"]), len(found["ctr"])) != (72, 360):
-        raise Wrong("not 72 CBC and 360 CTR vectors")
+    if (len(found["cbc"]), len(found["ctr"]), len(found["cmac"])) != (72, 360, 40):
+        raise Wrong("not 72 CBC, 360 CTR and 40 CMAC vectors")
+    return found
+
+
+def vector_cases():
+    found = archivists_vectors()
     for mode in ("cbc", "ctr"):
         for v in found[mode]:
             q = None if mode == "cbc" else "0x" + v["q"]
@@ -140,6 +171,142 @@ def vectors(place, alter=lambda data: data):
             place.works(what + ", streams", words(**case, names=("-", "-")), alter(expected), out="-", given=source)
     for name in ("in", "out", "vector.key"):
         os.remove(place.at(name))
+
+
+def flipped(data):
+    return data[:-1] + bytes([data[-1] ^ 1])
+
+
+def tag_vectors(place, alter=lambda data: data):
+    """Each tag is made and verified from a file and from standard input; with a bit altered, it or the message gets a no."""
+    for v in archivists_vectors()["cmac"]:
+        message, tag = bytes.fromhex(v["msg"]), alter(bytes.fromhex(v["tag"]))
+        place.write("vector.key", v["key"].encode())
+        place.write("in", message)
+        case = dict(l=v["l"], key="vector.key")
+        right = dict(case, way="verify", value=tag.hex())
+        for name, given in (("in", b""), ("-", message)):
+            what = f"l = {v['l']}, {len(message)} bytes, a tag of {v['taglen']} from {name}"
+            place.works(what, tag_words(**case, value=v["taglen"], names=(name,)), tag.hex().encode() + b"\n", out="-", given=given)
+            place.works(what + ", verified", tag_words(**right, names=(name,)), b"", out="-", given=given)
+            wrong = tag_words(**case, way="verify", value=flipped(tag).hex(), names=(name,))
+            place.fails(what + ", altered", 4, "no: altered", wrong, out=None, given=given)
+        altered_message = flipped(message) if message else b"\0"
+        place.fails("an altered message", 4, "standard input: no: altered", tag_words(**right, names=("-",)), out=None, given=altered_message)
+    for name in ("in", "vector.key"):
+        os.remove(place.at(name))
+
+
+def tag_forms(place):
+    """Ways to write one thing, every length of a tag, and the empty page."""
+    page = place.read("page")
+    whole, line = tag_of(page), tag_of(page).encode() + b"\n"
+    spaced = " " + whole[:9].upper() + "\n" + whole[9:] + " "
+    place.works("the length left out", tag_words(), line, out="-")
+    place.works("the key from standard input", tag_words(key="-"), line, out="-", given=KEY.encode())
+    place.works("a tag in groups", tag_words("verify", value=spaced), b"", out="-")
+    place.works("verified by a key from standard input", tag_words("verify", key="-", value=whole), b"", out="-", given=KEY.encode())
+    place.works("options last", ["verify", "page", *tag_words("verify", value=whole)[1:-1]], b"", out="-")
+    place.write("-x", page)
+    place.works("a name after --", tag_words(names=("--", "-x")), line, out="-")
+    name = os.fsencode(place.path) + b"/\xff\xfe"
+    place.write(os.fsdecode(name), page)
+    place.works("a name that is no text", tag_words(names=(name,)), line, out="-")
+    for length in range(8, 17):
+        place.works(f"{length} bytes", tag_words(value=length), tag_of(page, length).encode() + b"\n", out="-")
+        place.works(f"{length} bytes verified", tag_words("verify", value=whole[: 2 * length]), b"", out="-")
+        other = whole[: 2 * length - 1] + ("0" if whole[2 * length - 1] != "0" else "1")
+        place.fails(f"{length} bytes, the last digit wrong", 4, "page: no: altered", tag_words("verify", value=other), out=None)
+    place.write("empty", b"")
+    place.works("an empty file", tag_words(names=("empty",)), tag_of(b"").encode() + b"\n", out="-")
+    place.works("an empty file verified", tag_words("verify", value=tag_of(b""), names=("empty",)), b"", out="-")
+    place.fails("an empty file by a page's tag", 4, "empty: no: altered", tag_words("verify", value=whole, names=("empty",)), out=None)
+    for extra in ("-x", "empty", os.fsdecode(name)):
+        os.remove(place.at(extra))
+
+
+def altered_pages(place):
+    """A page is sealed, tagged, verified and opened; under another key, or altered, it gets a no."""
+    page = place.read("page")
+    place.works("sealed", words(mode="cbc", names=("page", "secret")), sealed("cbc", page), out="secret")
+    secret = place.read("secret")
+    tag = tag_of(secret)
+    place.works("sealed and tagged", tag_words(names=("secret",)), tag.encode() + b"\n", out="-")
+    place.works("sealed, tagged and verified", tag_words("verify", value=tag, names=("secret",)), b"", out="-")
+    place.write("other.key", flipped(bytes.fromhex(KEY)).hex().encode())
+    place.fails("another key", 4, "secret: no: altered", tag_words("verify", key="other.key", value=tag, names=("secret",)), out=None)
+    for bit in range(0, 8 * len(secret), 7):
+        altered_page = bytes(byte ^ (1 << bit % 8 if i == bit // 8 else 0) for i, byte in enumerate(secret))
+        place.fails(f"bit {bit} altered", 4, "no: altered", tag_words("verify", value=tag, names=("-",)), out=None, given=altered_page)
+    for what, given in (("a byte less", secret[:-1]), ("a byte more", secret + b"\0"), ("padded as the standard does", secret + b"\x80")):
+        place.fails(what, 4, "no: altered", tag_words("verify", value=tag, names=("-",)), out=None, given=given)
+    place.works("then opened", words("open", "cbc", names=("secret", "out")), page)
+    for name in ("secret", "out", "other.key"):
+        os.remove(place.at(name))
+
+
+def tag_refusals(place):
+    """Status 1: the numbers in their order, and before IN is looked for."""
+    whole = tag_of(place.read("page"))
+    for way, short in (("tag", 7), ("verify", whole[:14])):
+        for l in (0, 1, 5, 258, (1 << 32) + 2, 1 << 61, (1 << 64) - 1, 10**30):
+            place.fails(f"{way}, l = {l}", 1, "refused with 2:", tag_words(way, l=l, value=None if way == "tag" else whole), out=None)
+        for count in (0, 15, 17, 32):
+            place.write("other.key", b"ab" * count)
+            place.fails(f"{way}, a key of {count} bytes", 1, "refused with 3:", tag_words(way, key="other.key", value=whole if way == "verify" else 8), out=None)
+        missing = dict(value=short, names=("missing",))
+        place.fails(f"{way}, 2 before 3", 1, "refused with 2:", tag_words(way, l=9, key="other.key", **missing), out=None)
+        place.fails(f"{way}, 3 before 11", 1, "refused with 3:", tag_words(way, key="other.key", **missing), out=None)
+        place.fails(f"{way}, 11 before IN", 1, "refused with 11:", tag_words(way, **missing), out=None)
+    for length in (0, 1, 7, 17, 18, 256 + 16, (1 << 32) + 8, (1 << 64) - 1, 1 << 64, 10**30):
+        place.fails(f"a tag of {length} bytes", 1, "refused with 11:", tag_words(value=length), out=None)
+    for count in (0, 1, 7, 17, 24, 256 + 16):
+        place.fails(f"a tag of {count} bytes to be verified", 1, f"--tag gives {count} bytes", tag_words("verify", value=(whole * 17)[: 2 * count]), out=None)
+    os.remove(place.at("other.key"))
+
+
+def tag_usage(place):
+    """Status 2."""
+    whole = tag_of(place.read("page"))
+    for way, good in (("tag", tag_words(value=16)), ("verify", tag_words("verify", value=whole))):
+        for option in ("-l", "--key-file", "--tag") if way == "verify" else ("-l", "--key-file"):
+            i = good.index(option)
+            place.fails(f"{way}, no {option}", 2, f"{option} is missing", good[:i] + good[i + 2 :], out=None)
+            place.fails(f"{way}, {option} twice", 2, "twice", good + good[i : i + 2], out=None)
+        for option in ("--mode", "-n", "--start", "--offset", "--length" if way == "verify" else "--tag"):
+            place.fails(f"{way} with {option}", 2, f"'{way}' takes no {option}", [*good, option, "1"], out=None)
+        place.fails(f"{way}, no IN", 2, "where IN is wanted", good[:-1], out=None)
+        place.fails(f"{way}, a word too many", 2, "where IN is wanted", [*good, "out"])
+        place.fails(f"{way}, an empty name", 2, "name is empty", [*good[:-1], ""], out=None)
+        place.fails(f"{way}, key and IN from one stream", 2, "standard input", tag_words(way, key="-", value=good[-2], names=("-",)), out=None)
+    place.fails("n for a tag", 2, "a tag is always at n = 1", [*tag_words(), "-n", "1"], out=None)
+    for option in ("--length", "--tag"):
+        place.fails(f"a page with {option}", 2, f"'seal' takes no {option}", [*words(), option, "16"])
+    for length in ("", "-8", "+8", "0x10", "8.0", "sixteen"):
+        place.fails(f"a length of {length}", 2, "--length takes a number", tag_words(value=length), out=None)
+    for what, says, value in (
+        ("odd digits", "--tag: an odd number of hexadecimal digits (31)", whole[:31]), ("no digits", "--tag: character 5 ", whole[:4] + "x" + whole[5:]),
+        ("0x", "--tag: character 2 ", "0x" + whole),
+    ):  # fmt: skip
+        place.fails(f"{what} in a tag", 2, says, tag_words("verify", value=value), out=None)
+
+
+def tag_files(place):
+    """Status 3."""
+    whole = tag_of(place.read("page"))
+    place.write("locked", b"")
+    os.chmod(place.at("locked"), 0o000)
+    place.write_long()
+    for way, value in (("tag", None), ("verify", whole)):
+        place.fails(f"{way}, no key file", 3, "missing.key", tag_words(way, key="missing.key", value=value), out=None)
+        for name in ("missing", "."):
+            place.fails(f"{way}, IN is {name}", 3, f"labyrinth: {name}: ", tag_words(way, value=value, names=(name,)), out=None)
+        place.fails(f"{way}, IN that can't be read", 3, "ermission denied", tag_words(way, value=value, names=("locked",)), out=None, **somebody())
+        place.fails(f"{way}, no memory for IN", 3, "labyrinth: long: ", tag_words(way, value=value, names=("long",)), out=None, preexec_fn=narrow)
+    with open("/dev/full", "wb") as full:
+        place.fails("no room for a tag", 3, "standard output", tag_words(), out=None, stdout=full)
+    for extra in ("locked", "long"):
+        os.remove(place.at(extra))
 
 
 def forms(place):
@@ -178,21 +345,36 @@ def forms(place):
 
 
 def help_page(place):
-    """The card and the line in the help open a page that the archivists' program sealed so."""
+    """The card and the lines in the help tag, verify and open a page that the archivists' program sealed and tagged so."""
     text = place.run(["--help"]).stdout.decode()
+    forms = re.findall(r"^    (labyrinth (?:seal|tag|verify).* IN.*)$", text, re.M)
+    if len(forms) != 3 or any(form not in place.run([]).stderr.decode() for form in forms):
+        raise Wrong("the help and the usage message differ")
     n, l, start, q = re.search(r"n = (\d), l = (\d), CTR, start block ([0-9a-f ]+), q = (\d+),", text).groups()
     key = re.search(r"^ +key ([0-9a-f ]+)$", text, re.M).group(1)
-    line = re.search(r"^ +(labyrinth open --mode ctr .*)$", text, re.M).group(1)
+    tag, tag_l = re.search(r"^ +tag ([0-9a-f ]+), l = (\d),$", text, re.M).groups()
+    tag_key = re.search(r"^ +tag key ([0-9a-f ]+)$", text, re.M).group(1)
+    tag_line = re.search(r"^ +labyrinth (tag .*page\.sealed)$", text, re.M).group(1)
+    both = re.search(r"^ +labyrinth verify .*&&\n +labyrinth open --mode ctr .*$", text, re.M).group()
     page = b"A page that was sealed by another program.\n"
     cipher = labyrinth.Labyrinth(int(n), bytes.fromhex(key))
-    if len(bytes.fromhex(key)) != 8 * int(n) * int(l):
-        raise Wrong("the help's key has another length")
+    if len(bytes.fromhex(key)) != 8 * int(n) * int(l) or len(bytes.fromhex(tag_key)) != 8 * int(tag_l):
+        raise Wrong("a key of the help's has another length")
+    secret = modes.ctr_crypt(cipher, bytes.fromhex(start), int(q), page)
+    if modes.cmac(labyrinth.Labyrinth(1, bytes.fromhex(tag_key)), secret) != bytes.fromhex(tag):
+        raise Wrong("the help's tag is not the archivists'")
     place.write("card.key", key.encode())
-    place.write("page.sealed", modes.ctr_crypt(cipher, bytes.fromhex(start), int(q), page))
+    place.write("tag.key", tag_key.encode())
+    place.write("page.sealed", secret)
     os.rename(place.at("page"), place.at("kept"))
-    place.works("the help's line", shlex.split(line)[1:], page, out="page")
+    place.works("the help's line for a tag", shlex.split(tag_line), tag.replace(" ", "").encode() + b"\n", out="-")
+    shell = dict(program="sh", env={**os.environ, "PATH": place.path + ":" + os.environ["PATH"]})
+    place.works("the help's lines to verify and open", ["-c", both], page, out="page", **shell)
+    os.remove(place.at("page"))
+    place.write("page.sealed", flipped(secret))
+    place.fails("the help's lines on an altered page", 4, "page.sealed: no: altered", ["-c", both], out=None, **shell)
     os.rename(place.at("kept"), place.at("page"))
-    for name in ("card.key", "page.sealed"):
+    for name in ("card.key", "tag.key", "page.sealed"):
         os.remove(place.at(name))
     with open("/dev/full", "wb") as full:
         place.fails("help to a full disk", 3, "standard output", ["--help"], out="-", stdout=full)
@@ -276,8 +458,7 @@ def files(place):
     place.fails("a directory for IN", 3, "directory", words(names=("directory", "out")))
     for name in ("directory", "fifo", "dangling", "/dev/null", "none/out", "page/out", "x" * 300):
         place.fails(f"OUT is {name}", 3, f"labyrinth: {name}: ", words(names=("odd", name)), out=name)
-    # someone who may not write there; a run by root takes nobody's place
-    user = {"user": NOBODY, "group": NOBODY, "extra_groups": []} if os.getuid() == 0 else {}
+    user = somebody()
     os.chmod(place.at("directory"), 0o555)
     place.fails("OUT in a directory that can't be written", 3, "ermission denied", words(names=("page", "directory/out")), out="directory/out", **user)
     os.chmod(place.at("directory"), 0o777)
@@ -382,12 +563,7 @@ def progress(place):
         raise Wrong(f"the progress line: {early!r}, {shown!r}")
     os.remove(place.at("out"))
     os.remove(place.at("other"))
-    with open(place.at("long"), "wb") as file:
-        file.truncate(64 * MIB)
-
-    def narrow():
-        resource.setrlimit(resource.RLIMIT_AS, (32 * MIB, 32 * MIB))
-
+    place.write_long()
     done = place.run(words(names=("long", "-")), stdout=subprocess.DEVNULL, preexec_fn=narrow)
     if done.returncode != 0 or done.stderr:
         raise Wrong(f"64 MiB: status {done.returncode}: {done.stderr.decode()}")
@@ -395,14 +571,13 @@ def progress(place):
     place.count += 2
 
 
-def altered(place):
-    """One changed bit of one expected page is noticed."""
+def altered(place, part):
+    """One changed bit of one expected page or tag is noticed."""
     try:
-        vectors(place, lambda data: data[:-1] + bytes([data[-1] ^ 1]) if data else data)
+        part(place, lambda data: flipped(data) if data else data)
     except Wrong as wrong:
         if "other bytes" not in str(wrong):
             raise
-        place.count += 1
         return
     raise Wrong("altered vectors passed")
 
@@ -414,17 +589,19 @@ def main():
         place = Place(path)
         held = place.names()
         try:
-            for part in (vectors, forms, help_page, refusals, usage, files, ended, progress):
+            tag_parts = (tag_vectors, tag_forms, altered_pages, tag_refusals, tag_usage, tag_files)
+            for part in (vectors, forms, help_page, refusals, usage, files, ended, progress, *tag_parts):
                 part(place)
                 if place.names() != held:
                     raise Wrong(f"{part.__name__} left {place.names()}")
             count = place.count
-            altered(Place(tempfile.mkdtemp(dir=path)))
+            for part in (vectors, tag_vectors):
+                altered(Place(tempfile.mkdtemp(dir=path)), part)
         except Wrong as wrong:
             sys.exit(f"command: FAILED: {wrong}")
     if count != COUNT:
         sys.exit(f"command: FAILED: {count} checks, not {COUNT}")
-    print(f"command: {count} checks, and an altered byte is noticed")
+    print(f"command: {count} checks, and an altered byte or tag is noticed")
 
 
 if __name__ == "__main__":

@@ -22,7 +22,7 @@ quietly cargo build --offline --locked --release --workspace --examples --bins |
 # ---- the tests of both crates
 quietly cargo test --offline --locked --release --workspace || wrong "cargo test"
 passed=$(awk '/^test result: ok/ { n += $4 } END { print n + 0 }' "$work/log")
-[ "$passed" -eq 15 ] || wrong "cargo test: $passed tests passed, not 15"
+[ "$passed" -eq 17 ] || wrong "cargo test: $passed tests passed, not 17"
 
 # ---- without the archive the build says what to do; LABYRINTH_DIST says where it is
 mkdir "$work/none" "$work/dist" && cp "$root/target/dist/liblabyrinth.a" "$work/dist" || exit 1
@@ -45,13 +45,14 @@ for result, name, parameters in re.findall(r"^(\w+) (labyrinth_\w+)\(([^)]*)\);"
     declared.add(f"{name}({', '.join(f'{word}: {TYPES[kind.strip()]}' for kind, word in parts)}) -> {TYPES[result]}")
 block = re.search(r'extern "C" \{(.*?)\n\}', crate, re.S).group(1)
 taken = {re.sub(r"\s+", " ", t).replace("( ", "(").replace(", )", ")") for t in re.findall(r"fn (.*?);", block, re.S)}
-if len(declared) != 6 or declared != taken:
+if len(declared) != 8 or declared != taken:
     sys.exit(f"rust: the header and the crate differ: {sorted(declared ^ taken)}")
 P
 
-# ---- the example, and what it sealed by the archivists' program
+# ---- the example, and what it sealed and tagged by the archivists' program; an altered tag or page is noticed
 "target/rust/release/examples/page" >"$work/page" || wrong "the example"
-python3 -B - "$work/page" <<'P' || wrong "the example's pages"
+agrees() {
+    python3 -B - "$1" <<'P'
 import sys
 
 sys.path.insert(0, "tests/archivists")
@@ -63,14 +64,25 @@ pages = {line[0]: dict(zip(line[1::2], line[2::2])) for line in lines}
 if sorted(pages) != ["cbc", "ctr"]:
     sys.exit("rust: the example doesn't show two pages")
 for mode, page in pages.items():
-    key, start, plain = (bytes.fromhex(page[part]) for part in ("key", "start", "page"))
-    if len(key) != 8 * int(page["n"]) * int(page["l"]):
-        sys.exit("rust: the example's key has another length")
+    key, start, plain, tag_key = (bytes.fromhex(page[part]) for part in ("key", "start", "page", "tag_key"))
+    if len(key) != 8 * int(page["n"]) * int(page["l"]) or len(tag_key) != 8 * int(page["tag_l"]):
+        sys.exit("rust: a key of the example has another length")
     cipher = labyrinth.Labyrinth(int(page["n"]), key)
     sealed = modes.cbc_encrypt(cipher, start, plain) if mode == "cbc" else modes.ctr_crypt(cipher, start, int(page["q"]), plain)
     if sealed.hex() != page["sealed"]:
         sys.exit(f"rust: the example's page by {mode} is not what the archivists' program seals")
+    if modes.cmac(labyrinth.Labyrinth(1, tag_key), sealed).hex() != page["tag"]:
+        sys.exit(f"rust: the example's tag of the page by {mode} is not what the archivists' program makes")
 P
+}
+agrees "$work/page" || wrong "the example's pages"
+for part in sealed tag; do
+    for line in 1 2; do
+        sed "$line"'s/ '$part' 0/ '$part' 1/;t;'"$line"'s/ '$part' ./ '$part' 0/' "$work/page" >"$work/altered"
+        ! cmp -s "$work/page" "$work/altered" || wrong "the example shows no $part"
+        ! agrees "$work/altered" 2>/dev/null || wrong "an altered $part passed"
+    done
+done
 
 # ---- the command
 tests/command.py || wrong "the command"

@@ -1,12 +1,15 @@
 //! Reads the command line.
 use crate::pieces::Mode;
-use std::ffi::OsString;
+use std::ffi::{OsStr, OsString};
 
-pub const USAGE: &str = "labyrinth seal|open --mode cbc|ctr -n N -l L --key-file F --start HEX [--offset Q] IN OUT";
+pub const USAGE: &str = "labyrinth seal|open --mode cbc|ctr -n N -l L --key-file F --start HEX [--offset Q] IN OUT
+       labyrinth tag -l L --key-file F [--length T] IN
+       labyrinth verify -l L --key-file F --tag HEX IN";
 
 pub enum Request {
     Help,
     Work(Arguments),
+    Tag(TagArguments),
 }
 
 pub struct Arguments {
@@ -21,11 +24,38 @@ pub struct Arguments {
     pub output: OsString,
 }
 
-const OPTIONS: [&str; 6] = ["--mode", "-n", "-l", "--key-file", "--start", "--offset"];
+pub struct TagArguments {
+    pub task: Tagging,
+    pub l: usize,
+    pub key_file: OsString,
+    pub input: OsString,
+}
+
+pub enum Tagging {
+    /// Makes a tag of so many bytes.
+    Make(usize),
+    /// Verifies this tag.
+    Verify(Vec<u8>),
+}
+
+const WORDS: [&str; 4] = ["seal", "open", "tag", "verify"];
+/// Each option with the words that take it.
+const OPTIONS: [(&str, &[&str]); 8] = [
+    ("--mode", &["seal", "open"]),
+    ("-n", &["seal", "open"]),
+    ("-l", &WORDS),
+    ("--key-file", &WORDS),
+    ("--start", &["seal", "open"]),
+    ("--offset", &["seal", "open"]),
+    ("--length", &["tag"]),
+    ("--tag", &["verify"]),
+];
+/// A tag's length where --length is left out.
+const WHOLE_TAG: usize = 16;
 
 /// Options may stand anywhere; each at most once; -- ends them.
 pub fn read(words: impl Iterator<Item = OsString>) -> Result<Request, String> {
-    let mut values: [Option<OsString>; 6] = Default::default();
+    let mut values: [Option<OsString>; OPTIONS.len()] = Default::default();
     let mut operands = Vec::new();
     let (mut words, mut ended) = (words, false);
     while let Some(word) = words.next() {
@@ -36,7 +66,7 @@ pub fn read(words: impl Iterator<Item = OsString>) -> Result<Request, String> {
             ended = true;
         } else if text == "--help" || text == "-h" {
             return Ok(Request::Help);
-        } else if let Some(which) = OPTIONS.iter().position(|option| *option == text) {
+        } else if let Some(which) = OPTIONS.iter().position(|(option, _)| *option == text) {
             let value = words.next().ok_or(format!("{text} lacks its value"))?;
             if values[which].replace(value).is_some() {
                 return Err(format!("{text} stands twice"));
@@ -45,43 +75,78 @@ pub fn read(words: impl Iterator<Item = OsString>) -> Result<Request, String> {
             return Err(format!("unknown option {text}"));
         }
     }
-    if operands.len() != 3 {
-        return Err(format!("{} words besides the options, where 'seal' or 'open', IN and OUT are wanted", operands.len()));
-    }
-    let [mode, n, l, key_file, start, offset] = values;
-    let text = |value: Option<OsString>, option: &str| -> Result<String, String> {
-        value.ok_or(format!("{option} is missing"))?.into_string().map_err(|_| format!("{option}: not a text"))
-    };
-    let seal = match operands[0].to_str() {
-        Some("seal") => true,
-        Some("open") => false,
-        _ => return Err(format!("'seal' or 'open' comes first, not '{}'", operands[0].to_string_lossy())),
-    };
-    let mode = match text(mode, "--mode")?.as_str() {
-        "cbc" => Mode::Cbc,
-        "ctr" => Mode::Ctr,
-        other => return Err(format!("--mode is cbc or ctr, not '{other}'")),
-    };
-    let n = size(&text(n, "-n")?).ok_or("-n takes a number")?;
-    let l = size(&text(l, "-l")?).ok_or("-l takes a number")?;
-    let key_file = key_file.ok_or("--key-file is missing")?;
-    let start = hex(text(start, "--start")?.as_bytes()).map_err(|what| format!("--start: {what}"))?;
-    let offset = match (mode, offset) {
-        (_, None) => 0,
-        (Mode::Ctr, offset) => {
-            number(&text(offset, "--offset")?).ok_or("--offset takes a number below 2^64, decimal or 0x and hexadecimal digits")?
+    let names = operands.split_off(operands.len().min(1));
+    let first = operands.pop().unwrap_or_default();
+    let unknown = format!("'seal', 'open', 'tag' or 'verify' comes first, not '{}'", first.to_string_lossy());
+    let word = *WORDS.iter().find(|word| first == **word).ok_or(unknown)?;
+    for ((option, takers), value) in OPTIONS.iter().zip(&values) {
+        if value.is_some() && !takers.contains(&word) {
+            let why = if *option == "-n" { ": a tag is always at n = 1" } else { "" };
+            return Err(format!("'{word}' takes no {option}{why}"));
         }
-        (Mode::Cbc, _) => return Err("--offset is for --mode ctr only".to_string()),
-    };
-    let output = operands.pop().unwrap_or_default();
-    let input = operands.pop().unwrap_or_default();
-    if input.is_empty() || output.is_empty() || key_file.is_empty() {
+    }
+    let [mode, n, l, key_file, start, offset, length, tag] = values;
+    match word {
+        "tag" | "verify" => {
+            let [input] = files(names, "IN is")?;
+            let l = size_of(l, "-l")?;
+            let key_file = key_file.ok_or("--key-file is missing")?;
+            let task = match (word, length) {
+                ("verify", _) => Tagging::Verify(bytes_of(tag, "--tag")?),
+                (_, None) => Tagging::Make(WHOLE_TAG),
+                (_, length) => Tagging::Make(size_of(length, "--length")?),
+            };
+            check_names(&key_file, &[&input])?;
+            Ok(Request::Tag(TagArguments { task, l, key_file, input }))
+        }
+        _ => {
+            let [input, output] = files(names, "IN and OUT are")?;
+            let mode = match text_of(mode, "--mode")?.as_str() {
+                "cbc" => Mode::Cbc,
+                "ctr" => Mode::Ctr,
+                other => return Err(format!("--mode is cbc or ctr, not '{other}'")),
+            };
+            let n = size_of(n, "-n")?;
+            let l = size_of(l, "-l")?;
+            let key_file = key_file.ok_or("--key-file is missing")?;
+            let start = bytes_of(start, "--start")?;
+            let offset = match (mode, offset) {
+                (_, None) => 0,
+                (Mode::Ctr, offset) => number(&text_of(offset, "--offset")?)
+                    .ok_or("--offset takes a number below 2^64, decimal or 0x and hexadecimal digits")?,
+                (Mode::Cbc, _) => return Err("--offset is for --mode ctr only".to_string()),
+            };
+            check_names(&key_file, &[&input, &output])?;
+            Ok(Request::Work(Arguments { seal: word == "seal", mode, n, l, key_file, start, offset, input, output }))
+        }
+    }
+}
+
+fn files<const COUNT: usize>(names: Vec<OsString>, wanted: &str) -> Result<[OsString; COUNT], String> {
+    names.try_into().map_err(|names: Vec<_>| format!("{} words besides the options and the first, where {wanted} wanted", names.len()))
+}
+
+/// IN stands first.
+fn check_names(key_file: &OsStr, names: &[&OsStr]) -> Result<(), String> {
+    if key_file.is_empty() || names.iter().any(|name| name.is_empty()) {
         return Err("a file's name is empty".to_string());
     }
-    if key_file == *"-" && input == *"-" {
+    if key_file == "-" && names[0] == "-" {
         return Err("the key and IN can't both come from standard input".to_string());
     }
-    Ok(Request::Work(Arguments { seal, mode, n, l, key_file, start, offset, input, output }))
+    Ok(())
+}
+
+fn text_of(value: Option<OsString>, option: &str) -> Result<String, String> {
+    value.ok_or(format!("{option} is missing"))?.into_string().map_err(|_| format!("{option}: not a text"))
+}
+
+fn size_of(value: Option<OsString>, option: &str) -> Result<usize, String> {
+    size(&text_of(value, option)?).ok_or(format!("{option} takes a number"))
+}
+
+fn bytes_of(value: Option<OsString>, option: &str) -> Result<Vec<u8>, String> {
+    hex(text_of(value, option)?.as_bytes()).map_err(|what| format!("{option}: {what}"))
 }
 
 /// Decimal digits; a number too large for the type is as wrong as the largest, and the library refuses that.

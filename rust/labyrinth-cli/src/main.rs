@@ -1,11 +1,12 @@
-//! The command labyrinth: seals and opens pages. src/help.txt says how it is used and what its exit statuses are.
+//! The command labyrinth: seals and opens pages, and makes and verifies their tags. src/help.txt says how it is used and what its exit
+//! statuses are.
 mod arguments;
 mod output;
 mod pieces;
 mod progress;
 
-use arguments::{Arguments, Request};
-use labyrinth::Error;
+use arguments::{Arguments, Request, TagArguments, Tagging};
+use labyrinth::{Error, TagKey};
 use output::Output;
 use pieces::{Failure, Mode, Task, PIECE};
 use progress::Progress;
@@ -16,7 +17,7 @@ use std::os::unix::fs::MetadataExt;
 use std::os::unix::io::AsFd;
 use std::process::exit;
 
-/// A message and the exit status: 1 refused with a number, 2 usage, 3 a file could not be read or written.
+/// A message and the exit status: 1 refused with a number, 2 usage, 3 a file could not be read or written, 4 the tag is not IN's.
 struct Stop(i32, String);
 
 const LONGEST_KEY_FILE: u64 = 65536;
@@ -35,23 +36,23 @@ fn main() {
 
 fn run() -> Result<(), Stop> {
     match arguments::read(std::env::args_os().skip(1)) {
-        Ok(Request::Help) => {
-            let help = include_str!("help.txt");
-            io::stdout()
-                .write_all(help.as_bytes())
-                .and_then(|()| io::stdout().flush())
-                .map_err(|e| Stop(3, format!("standard output: {e}")))
-        }
+        Ok(Request::Help) => print(include_str!("help.txt")),
         Ok(Request::Work(arguments)) => work(&arguments),
-        Err(message) => Err(Stop(2, format!("{message}\nusage: {}; see labyrinth --help", arguments::USAGE))),
+        Ok(Request::Tag(arguments)) => tag(&arguments),
+        Err(message) => Err(Stop(2, format!("{message}\nusage: {}\nsee labyrinth --help", arguments::USAGE))),
     }
+}
+
+fn print(text: &str) -> Result<(), Stop> {
+    let written = Output::standard().and_then(|mut output| output.write_all(text.as_bytes()).and_then(|()| output.finish()));
+    written.map_err(|e| Stop(3, format!("standard output: {e}")))
 }
 
 fn work(a: &Arguments) -> Result<(), Stop> {
     let (key, key_file) = read_key(&a.key_file)?;
     let task = Task { seal: a.seal, mode: a.mode, n: a.n, l: a.l, key: &key, q: a.offset };
     // 1, 2, 3 and 6, before any file is opened: an empty run has no other refusal
-    task.piece(&a.start, &[], &mut []).map_err(|error| refused(a, key.len(), error, None))?;
+    task.piece(&a.start, &[], &mut []).map_err(|error| refused_page(a, key.len(), error, None))?;
 
     let (input, held) = open_input(&a.input)?;
     if let Some(out) = there_now(&a.output)? {
@@ -65,7 +66,7 @@ fn work(a: &Arguments) -> Result<(), Stop> {
     let length = if held.is_file() && a.input != *"-" { Some(held.len()) } else { None };
     if let (Mode::Cbc, Some(length)) = (a.mode, length) {
         if length % (16 * a.n as u64) != 0 {
-            return Err(refused(a, key.len(), Error::SourceLength, Some(length)));
+            return Err(refused_page(a, key.len(), Error::SourceLength, Some(length)));
         }
     }
 
@@ -77,15 +78,49 @@ fn work(a: &Arguments) -> Result<(), Stop> {
     match done {
         Ok(_) => output.finish().map_err(unwritten),
         Err(Failure::Refused { error, length, written }) => {
-            let Stop(status, mut message) = refused(a, key.len(), error, Some(length));
+            let Stop(status, mut message) = refused_page(a, key.len(), error, Some(length));
             if a.output == *"-" && written > 0 {
                 message += &format!("; {written} bytes went to standard output before this was seen: throw them away");
             }
             Err(Stop(status, message))
         }
-        Err(Failure::Read(e)) => Err(Stop(3, format!("{}: {e}", named(&a.input, "standard input")))),
+        Err(Failure::Read(e)) => Err(unread(&a.input, e)),
         Err(Failure::Write(e)) => Err(unwritten(e)),
     }
+}
+
+/// Makes the tag of IN, or verifies it. IN is held in memory as a whole.
+fn tag(a: &TagArguments) -> Result<(), Stop> {
+    let (bytes, _) = read_key(&a.key_file)?;
+    let key = TagKey { l: a.l, bytes: &bytes };
+    let (mut made, option, count) = match &a.task {
+        // a length past 16 is as wrong as 17
+        Tagging::Make(count) => (vec![0; (*count).min(17)], "--length", *count),
+        Tagging::Verify(tag) => (Vec::new(), "--tag", tag.len()),
+    };
+    let mut run = |msg: &[u8]| match &a.task {
+        Tagging::Make(_) => key.cmac(msg, &mut made).map(|()| true),
+        Tagging::Verify(tag) => key.cmac_verify(msg, tag),
+    };
+    let stop = |error| refused(error, 1, a.l, bytes.len(), || format!("{option} gives {count} bytes"));
+    // 2, 3 and 11, before IN is opened: there is no other refusal
+    run(&[]).map_err(stop)?;
+    let mut page = Vec::new();
+    let (mut input, _) = open_input(&a.input)?;
+    input.read_to_end(&mut page).map_err(|e| unread(&a.input, e))?;
+    let yes = run(&page).map_err(stop)?;
+    match a.task {
+        Tagging::Make(_) => print(&(made.iter().map(|byte| format!("{byte:02x}")).collect::<String>() + "\n")),
+        Tagging::Verify(_) if yes => Ok(()),
+        Tagging::Verify(_) => {
+            let name = named(&a.input, "standard input");
+            Err(Stop(4, format!("{name}: no: altered, or another page than this tag and key are for; do not open it")))
+        }
+    }
+}
+
+fn unread(name: &OsStr, error: io::Error) -> Stop {
+    Stop(3, format!("{}: {error}", named(name, "standard input")))
 }
 
 fn named(name: &OsStr, stream: &str) -> String {
@@ -98,7 +133,7 @@ fn named(name: &OsStr, stream: &str) -> String {
 
 fn open_input(name: &OsStr) -> Result<(File, Metadata), Stop> {
     let opened = if name == "-" { io::stdin().as_fd().try_clone_to_owned().map(File::from) } else { File::open(name) };
-    opened.and_then(|file| file.metadata().map(|held| (file, held))).map_err(|e| Stop(3, format!("{}: {e}", named(name, "standard input"))))
+    opened.and_then(|file| file.metadata().map(|held| (file, held))).map_err(|e| unread(name, e))
 }
 
 /// What OUT is now, if it is there.
@@ -120,7 +155,7 @@ fn read_key(name: &OsStr) -> Result<(Vec<u8>, Metadata), Stop> {
     let (file, held) = open_input(name)?;
     let mut text = Vec::new();
     let shown = named(name, "standard input");
-    file.take(LONGEST_KEY_FILE + 1).read_to_end(&mut text).map_err(|e| Stop(3, format!("{shown}: {e}")))?;
+    file.take(LONGEST_KEY_FILE + 1).read_to_end(&mut text).map_err(|e| unread(name, e))?;
     if text.len() as u64 > LONGEST_KEY_FILE {
         return Err(Stop(2, format!("the key file {shown} has more than {LONGEST_KEY_FILE} bytes: it holds no key")));
     }
@@ -128,19 +163,25 @@ fn read_key(name: &OsStr) -> Result<(Vec<u8>, Metadata), Stop> {
     Ok((key, held))
 }
 
-/// The message names the number and what was wrong in this run; it shows nothing of the key but its length.
-fn refused(a: &Arguments, key: usize, error: Error, length: Option<u64>) -> Stop {
-    let (n, l) = (a.n, a.l);
+/// The message names the number and what was wrong in this run, for numbers past 3 by `own`; it shows nothing of the key but its length.
+fn refused(error: Error, n: usize, l: usize, key: usize, own: impl FnOnce() -> String) -> Stop {
     let more = match error {
         Error::BlockSize => format!("n is {n}"),
         Error::KeySize => format!("l is {l}"),
         Error::KeyLength => format!("n = {n} and l = {l} take {} bytes ({} digits), the key file holds {key} bytes", 8 * n * l, 16 * n * l),
+        _ => own(),
+    };
+    Stop(1, format!("{error} ({more})"))
+}
+
+fn refused_page(a: &Arguments, key: usize, error: Error, length: Option<u64>) -> Stop {
+    let n = a.n;
+    refused(error, n, a.l, key, || match error {
         Error::StartLength => format!("n = {n} takes {} bytes ({} digits), --start gives {} bytes", 16 * n, 32 * n, a.start.len()),
         Error::SourceLength => {
             let length = length.map_or("?".to_string(), |x| x.to_string());
             format!("CBC takes whole blocks only, of {} bytes at n = {n}, and nothing is padded; IN has {length} bytes", 16 * n)
         }
         _ => "this should not happen".to_string(),
-    };
-    Stop(1, format!("{error} ({more})"))
+    })
 }

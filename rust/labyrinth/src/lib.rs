@@ -1,22 +1,30 @@
-//! The block cipher Labyrinth, and CBC and CTR of NIST SP 800-38A over it: a safe wrapper of the library in Rattle that is proved against
-//! the article. Every function expands a key, does one operation and keeps nothing.
+//! The block cipher Labyrinth, and over it CBC and CTR of NIST SP 800-38A and the tag of SP 800-38B (CMAC): a safe wrapper of the library in
+//! Rattle that is proved against the article and these standards. Every function expands a key, does one operation and keeps nothing.
 //!
 //! What is proved is the library behind the C interface; this wrapper is not. It hands over what it is given, unchecked, and returns what
 //! the library answered. Safe Rust keeps to what the proofs ask of a caller: slices are valid, and a destination overlaps nothing.
 //!
 //! **Never use one start block with overlapping counters for two pages under one key** (CTR): the XOR of the two sealed pages is then the
-//! XOR of the pages. **CBC and CTR show no alteration**: a changed sealed page, or a wrong key, opens to something, and nothing tells.
-//! CBC takes whole blocks only; nothing here pads. Time depends on the data and the key, and keys are not cleared from memory.
+//! XOR of the pages. **CBC and CTR show no alteration**: a changed sealed page, or a wrong key, opens to something, and nothing tells. So tag
+//! the sealed page, under a key used for nothing else, and verify the tag before opening ([`TagKey`]). A tag covers its message only: a
+//! start block, or q, kept where it could be altered belongs to the message. CBC takes whole blocks only; nothing here pads. Time depends on
+//! the data and the key, and keys are not cleared from memory.
 //!
 //! ```
-//! use labyrinth::{Error, Key, Start};
+//! use labyrinth::{Error, Key, Start, TagKey};
 //!
 //! let key = Key { n: 1, l: 2, bytes: &[7; 16] };
+//! let tag_key = TagKey { l: 2, bytes: &[8; 16] };
 //! let start = Start(&[9; 16]);
-//! let (mut sealed, mut opened) = ([0; 11], [0; 11]);
+//! let (mut sealed, mut tag, mut opened) = ([0; 11], [0; 16], [0; 11]);
 //! key.ctr(start, 0, b"eleven long", &mut sealed)?;
+//! tag_key.cmac(&sealed, &mut tag)?;
+//! // kept: the sealed page and its tag
+//! assert!(tag_key.cmac_verify(&sealed, &tag)?, "altered: not to be opened");
 //! key.ctr(start, 0, &sealed, &mut opened)?;
 //! assert_eq!(&opened, b"eleven long");
+//! sealed[0] ^= 1;
+//! assert!(!tag_key.cmac_verify(&sealed, &tag)?);
 //! assert_eq!(key.cbc_seal(start, b"eleven long", &mut sealed), Err(Error::SourceLength));
 //! # Ok::<(), Error>(())
 //! ```
@@ -83,10 +91,22 @@ extern "C" {
         dst: *mut u8,
         dst_len: usize,
     ) -> u8;
+    fn labyrinth_cmac(l: usize, key: *const u8, key_len: usize, msg: *const u8, msg_len: usize, tag: *mut u8, tag_len: usize) -> u8;
+    fn labyrinth_cmac_verify(
+        l: usize,
+        key: *const u8,
+        key_len: usize,
+        msg: *const u8,
+        msg_len: usize,
+        tag: *const u8,
+        tag_len: usize,
+        yes: *mut u8,
+    ) -> u8;
     fn labyrinth_mix(word: u64) -> u64;
 }
 
-/// Why the library refused: document 01's number. The destination then holds what it held before.
+/// Why the library refused: the number of documents 01 and 02. The destination, or the tag to be made, then holds what it held before.
+/// (Document 02's 12, a working key of another n than 1 for a tag, can't come about: a [`TagKey`] has no n.)
 #[derive(Clone, Copy, Debug, PartialEq, Eq, Hash)]
 #[non_exhaustive]
 pub enum Error {
@@ -94,7 +114,7 @@ pub enum Error {
     BlockSize,
     /// 2: l isn't 2, 3 or 4.
     KeySize,
-    /// 3: the key isn't 8nl bytes.
+    /// 3: the key isn't 8nl bytes; n is 1 for a tag.
     KeyLength,
     /// 4: the source isn't 16n bytes (a block), or no multiple of that (CBC).
     SourceLength,
@@ -102,12 +122,14 @@ pub enum Error {
     DestinationLength,
     /// 6: the start block isn't 16n bytes.
     StartLength,
+    /// 11: the tag isn't 8 to 16 bytes.
+    TagLength,
     /// Another number, which this crate doesn't know.
     Unknown(u8),
 }
 
 impl Error {
-    /// Document 01's number.
+    /// The number of documents 01 and 02.
     pub fn number(self) -> u8 {
         match self {
             Error::BlockSize => 1,
@@ -116,6 +138,7 @@ impl Error {
             Error::SourceLength => 4,
             Error::DestinationLength => 5,
             Error::StartLength => 6,
+            Error::TagLength => 11,
             Error::Unknown(number) => number,
         }
     }
@@ -130,6 +153,7 @@ impl fmt::Display for Error {
             Error::SourceLength => "the source isn't 16n bytes, or for CBC no multiple of 16n bytes",
             Error::DestinationLength => "the destination isn't 16n bytes, or for CBC and CTR isn't as long as the source",
             Error::StartLength => "the start block isn't 16n bytes",
+            Error::TagLength => "the tag isn't 8 to 16 bytes",
             Error::Unknown(_) => "a number that the crate labyrinth doesn't know",
         };
         write!(f, "refused with {}: {words}", self.number())
@@ -147,6 +171,7 @@ fn answer(number: u8) -> Result<(), Error> {
         4 => Err(Error::SourceLength),
         5 => Err(Error::DestinationLength),
         6 => Err(Error::StartLength),
+        11 => Err(Error::TagLength),
         other => Err(Error::Unknown(other)),
     }
 }
@@ -178,12 +203,29 @@ pub struct Start<'a>(
     pub &'a [u8],
 );
 
+/// A key for tags, of 8l bytes: tags are at n = 1. Anything may stand here, as in a [`Key`], and be refused with 2 or 3. It is a type of its
+/// own, since a tag's key should be used for nothing else. The bytes are the caller's, who clears them.
+#[derive(Clone, Copy)]
+pub struct TagKey<'a> {
+    /// Half-blocks in the key: 2, 3 or 4.
+    pub l: usize,
+    /// The key, first byte first.
+    pub bytes: &'a [u8],
+}
+
+/// Shows l and the key's length, not its bytes.
+impl fmt::Debug for TagKey<'_> {
+    fn fmt(&self, f: &mut fmt::Formatter<'_>) -> fmt::Result {
+        write!(f, "TagKey {{ l: {}, bytes: {} not shown }}", self.l, self.bytes.len())
+    }
+}
+
 // What the functions for a block, and those for CBC, have in common.
 type Block = unsafe extern "C" fn(usize, usize, *const u8, usize, *const u8, usize, *mut u8, usize) -> u8;
 type Cbc = unsafe extern "C" fn(usize, usize, *const u8, usize, *const u8, usize, *const u8, usize, *mut u8, usize) -> u8;
 
-// Of every call below: a slice's pointer is valid for its length, and dst, borrowed mutably, overlaps no other slice. That is all that
-// the library asks of its caller; lengths and sizes may be anything.
+// Of every call below: a slice's pointer is valid for its length, and dst, or the tag to be made, borrowed mutably, and yes, a variable,
+// overlap nothing else. That is all that the library asks of its caller; lengths and sizes may be anything.
 impl Key<'_> {
     fn block(&self, map: Block, src: &[u8], dst: &mut [u8]) -> Result<(), Error> {
         let Key { n, l, bytes: key } = *self;
@@ -213,7 +255,7 @@ impl Key<'_> {
     }
 
     /// Opens what [`Key::cbc_seal`] sealed with the same key and start block. Refused as there. With another key or start block, or of a
-    /// changed page, it gives something else and says nothing.
+    /// changed page, it gives something else and says nothing. A changed page shows by its tag ([`TagKey::cmac_verify`]).
     pub fn cbc_open(&self, start: Start<'_>, src: &[u8], dst: &mut [u8]) -> Result<(), Error> {
         self.cbc(labyrinth_cbc_open, start, src, dst)
     }
@@ -243,6 +285,25 @@ impl Key<'_> {
     }
 }
 
+impl TagKey<'_> {
+    /// Fills `tag`, whose length is the tag's, with the first bytes of the message's CMAC. A message has any length, 0 too. Refused with 2, 3
+    /// or 11, the first that applies in this order.
+    pub fn cmac(&self, msg: &[u8], tag: &mut [u8]) -> Result<(), Error> {
+        let TagKey { l, bytes: key } = *self;
+        answer(unsafe { labyrinth_cmac(l, key.as_ptr(), key.len(), msg.as_ptr(), msg.len(), tag.as_mut_ptr(), tag.len()) })
+    }
+
+    /// Whether `tag` is the first bytes of the message's CMAC. Refused as in [`TagKey::cmac`]. `Ok(false)` is a no: the message, the tag or
+    /// the key is another, and what was sealed is not to be opened. So never drop the answer, as `key.cmac_verify(msg, tag)?;` would.
+    pub fn cmac_verify(&self, msg: &[u8], tag: &[u8]) -> Result<bool, Error> {
+        let TagKey { l, bytes: key } = *self;
+        let (text, given) = ((msg.as_ptr(), msg.len()), (tag.as_ptr(), tag.len()));
+        let mut yes = 0;
+        answer(unsafe { labyrinth_cmac_verify(l, key.as_ptr(), key.len(), text.0, text.1, given.0, given.1, &mut yes) })?;
+        Ok(yes == 1)
+    }
+}
+
 /// The article's mixing of a word.
 pub fn mix(word: u64) -> u64 {
     unsafe { labyrinth_mix(word) }
@@ -259,6 +320,9 @@ mod tests {
     const BLOCKS: [Operation; 2] = [|k, _, s, d| k.encipher(s, d), |k, _, s, d| k.decipher(s, d)];
     const CBC: [Operation; 2] = [|k, t, s, d| k.cbc_seal(t, s, d), |k, t, s, d| k.cbc_open(t, s, d)];
     const CTR: Operation = |k, t, s, d| k.ctr(t, 5, s, d);
+    // n is passed over; for verifying, the start block is the tag, and the destination holds the answer
+    const CMAC: Operation = |k, _, s, d| TagKey { l: k.l, bytes: k.bytes }.cmac(s, d);
+    const VERIFY: Operation = |k, t, s, d| TagKey { l: k.l, bytes: k.bytes }.cmac_verify(s, t.0).map(|yes| d.fill(u8::from(yes)));
 
     // n, l and the lengths of key, start block, source and destination
     fn number_of(operation: Operation, [n, l, key, start, src, dst]: [usize; 6]) -> u8 {
@@ -309,12 +373,31 @@ mod tests {
     }
 
     #[test]
+    fn numbers_of_tags_in_order() {
+        for l in [2, 3, 4] {
+            for count in 0..=32 {
+                let number = if (8..=16).contains(&count) { 0 } else { 11 };
+                for (op, [tag, dst]) in [(CMAC, [0, count]), (VERIFY, [count, 1])] {
+                    for msg in [0, 1, 16, 17, 40] {
+                        assert_eq!(number_of(op, [1, 9, 8 * l - 1, tag, msg, dst]), 2);
+                        assert_eq!(number_of(op, [1, l, 8 * l - 1, tag, msg, dst]), 3);
+                        assert_eq!(number_of(op, [1, l, 16 * l, tag, msg, dst]), 3);
+                        assert_eq!(number_of(op, [1, l, 8 * l, tag, msg, dst]), number);
+                    }
+                }
+            }
+        }
+    }
+
+    #[test]
     fn sizes_at_full_width() {
         let wide = |x: u64| usize::try_from(x).unwrap_or(usize::MAX);
         for op in [BLOCKS[0], BLOCKS[1], CBC[0], CBC[1], CTR] {
             for bad in [0, 3, 8, 257, wide((1 << 32) + 1), wide(1 << 62), usize::MAX] {
                 assert_eq!(number_of(op, [bad, 2, 16, 16, 16, 16]), 1, "n = {bad}");
             }
+        }
+        for op in [BLOCKS[0], BLOCKS[1], CBC[0], CBC[1], CTR, CMAC, VERIFY] {
             for bad in [0, 1, 5, 258, wide((1 << 32) + 2), wide(1 << 61), usize::MAX] {
                 assert_eq!(number_of(op, [1, bad, 16, 16, 16, 16]), 2, "l = {bad}");
             }
@@ -328,7 +411,7 @@ mod tests {
             let error = answer(number).unwrap_err();
             assert_eq!(error.number(), number);
             assert!(error.to_string().starts_with(&format!("refused with {number}: ")));
-            assert_eq!(matches!(error, Error::Unknown(_)), number > 6);
+            assert_eq!(matches!(error, Error::Unknown(_)), number > 6 && number != 11);
         }
     }
 
@@ -343,5 +426,7 @@ mod tests {
     fn debug_hides_the_key() {
         let shown = format!("{:?}", Key { n: 1, l: 2, bytes: &[0xAB; 16] });
         assert_eq!(shown, "Key { n: 1, l: 2, bytes: 16 not shown }");
+        let shown = format!("{:?}", TagKey { l: 2, bytes: &[0xAB; 16] });
+        assert_eq!(shown, "TagKey { l: 2, bytes: 16 not shown }");
     }
 }

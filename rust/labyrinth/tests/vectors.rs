@@ -1,5 +1,5 @@
-//! The archivists' vectors (tests/archivists/vectors.json of the repository), all blocks and runs, through the crate.
-use labyrinth::{Key, Start};
+//! The archivists' vectors (tests/archivists/vectors.json of the repository), all blocks, runs and tags, through the crate.
+use labyrinth::{Key, Start, TagKey};
 use std::collections::HashMap;
 
 struct Vector(HashMap<String, String>);
@@ -21,7 +21,7 @@ impl Vector {
 }
 
 // The file has one name and value a line, told apart by their indent: 1 for a kind, 2 for a vector's braces, 3 for its parts.
-fn vectors(kind: &str, count: usize) -> Vec<Vector> {
+fn vectors(kind: &str, count: usize, sizes: usize) -> Vec<Vector> {
     let path = concat!(env!("CARGO_MANIFEST_DIR"), "/../../tests/archivists/vectors.json");
     let text = std::fs::read_to_string(path).unwrap_or_else(|error| panic!("{path}: {error}"));
     let (mut inside, mut found) = (false, Vec::new());
@@ -40,14 +40,14 @@ fn vectors(kind: &str, count: usize) -> Vec<Vector> {
         }
     }
     assert_eq!(found.len(), count, "vectors of the kind {kind}");
-    let sizes: std::collections::HashSet<_> = found.iter().map(|v| (v.number("n"), v.number("l"))).collect();
-    assert_eq!(sizes.len(), 9, "sizes of the kind {kind}");
+    let held: std::collections::HashSet<_> = found.iter().map(|v| (v.number("n"), v.number("l"))).collect();
+    assert_eq!(held.len(), sizes, "sizes of the kind {kind}");
     found
 }
 
 #[test]
 fn blocks() {
-    for v in vectors("block", 225) {
+    for v in vectors("block", 225, 9) {
         let (bytes, plain, sealed) = (v.bytes("key"), v.bytes("pt"), v.bytes("ct"));
         let key = Key { n: v.number("n"), l: v.number("l"), bytes: &bytes };
         let mut made = vec![0; plain.len()];
@@ -60,7 +60,7 @@ fn blocks() {
 
 #[test]
 fn cbc() {
-    for v in vectors("cbc", 72) {
+    for v in vectors("cbc", 72, 9) {
         let (bytes, start, plain, sealed) = (v.bytes("key"), v.bytes("iv"), v.bytes("pt"), v.bytes("ct"));
         let key = Key { n: v.number("n"), l: v.number("l"), bytes: &bytes };
         let mut made = vec![0; plain.len()];
@@ -73,7 +73,7 @@ fn cbc() {
 
 #[test]
 fn ctr() {
-    for v in vectors("ctr", 360) {
+    for v in vectors("ctr", 360, 9) {
         let (bytes, start, plain, sealed) = (v.bytes("key"), v.bytes("start"), v.bytes("pt"), v.bytes("ct"));
         let key = Key { n: v.number("n"), l: v.number("l"), bytes: &bytes };
         let q = u64::from_str_radix(v.text("q"), 16).unwrap();
@@ -82,5 +82,25 @@ fn ctr() {
         assert_eq!(made, sealed);
         key.ctr(Start(&start), q, &sealed, &mut made).unwrap();
         assert_eq!(made, plain);
+    }
+}
+
+#[test]
+fn tags() {
+    for v in vectors("cmac", 40, 3) {
+        let (bytes, msg, tag) = (v.bytes("key"), v.bytes("msg"), v.bytes("tag"));
+        assert_eq!((v.number("n"), v.number("taglen")), (1, tag.len()));
+        let key = TagKey { l: v.number("l"), bytes: &bytes };
+        let mut made = vec![0; tag.len()];
+        key.cmac(&msg, &mut made).unwrap();
+        assert_eq!(made, tag);
+        assert_eq!(key.cmac_verify(&msg, &tag), Ok(true));
+        for bit in 0..8 * tag.len() {
+            made[bit / 8] ^= 1 << (bit % 8);
+            assert_eq!(key.cmac_verify(&msg, &made), Ok(false));
+            made[bit / 8] ^= 1 << (bit % 8);
+        }
+        let longer = [msg.as_slice(), &[0]].concat();
+        assert_eq!(key.cmac_verify(&longer, &tag), Ok(false));
     }
 }
