@@ -1,5 +1,5 @@
 /* Times the proved code against C in several shapes and OpenSSL's Camellia and ARIA at n = 1, 2 and 4: many blocks each by itself, both
-   ways, and runs by CBC and CTR; then runs of all lengths, expansion, and short runs. Always the best of several passes, all in turn.
+   ways, and runs by CBC and CTR; then tags, runs of all lengths, expansion, and short runs. Always the best of several passes, all in turn.
    First C must give the same bytes. Times are of the processor given to the thread, so that other work disturbs them little; short runs go
    by the clock, which is read faster. It assumes Linux on x86-64. */
 #define _POSIX_C_SOURCE 199309L
@@ -16,6 +16,8 @@ uint8_t sigourta_expand(size_t n, size_t l, const uint8_t *key, size_t key_lengt
 uint8_t sigourta_cbc_seal(size_t n, const uint64_t words[32], const uint8_t *start, size_t start_length, const uint8_t *src, size_t src_length, uint8_t *dst, size_t dst_length);
 uint8_t sigourta_cbc_open(size_t n, const uint64_t words[32], const uint8_t *start, size_t start_length, const uint8_t *src, size_t src_length, uint8_t *dst, size_t dst_length);
 uint8_t sigourta_ctr(size_t n, const uint64_t words[32], const uint8_t *start, size_t start_length, uint64_t q, const uint8_t *src, size_t src_length, uint8_t *dst, size_t dst_length);
+uint8_t sigourta_cmac(const uint64_t words[32], const uint8_t *message, size_t length, uint8_t *tag, size_t tag_length);
+uint8_t sigourta_cmac_verify(const uint64_t words[32], const uint8_t *message, size_t length, const uint8_t *tag, size_t tag_length);
 
 enum { KINDS = 5, LONG = 1 << 20, LONGEST = 1 << 24 };
 static const char *const KIND[KINDS] = {"enciphering", "deciphering", "CBC sealing", "CBC opening", "CTR"};
@@ -139,6 +141,61 @@ static void ratios(void) {
         }
 }
 
+/* who tags or seals a message at n = 1: ours made, ours verified, ours sealed by CBC, C by one table and by eight */
+enum { MADE, VERIFIED, SEALED, TAG_ONE, TAG_EIGHT, TAGGERS };
+
+static uint8_t run_tag(int who, size_t length, uint8_t tag[16]) {
+    uint64_t schedule[80];
+    if (who == MADE) return sigourta_cmac(words, input, length, tag, 16);
+    if (who == VERIFIED) return sigourta_cmac_verify(words, input, length, tag, 16);
+    if (who == SEALED) return run_us(LAB_CBC_SEAL, 1, length);
+    lab_schedule(1, words, 0, schedule);
+    lab_tag(who == TAG_ONE ? LAB_ONE : LAB_EIGHT, schedule, input, length, tag);
+    return 0;
+}
+
+/* C in both shapes makes our tags, and ours says yes to them and no to others; 0 if not */
+static int same_tags(void) {
+    for (size_t length = 0; length <= 100; length++)
+        for (int who = TAG_ONE; who <= TAG_EIGHT; who++) {
+            uint8_t by_them[16], ours[16] = {0};
+            run_tag(who, length, by_them);
+            if (run_tag(MADE, length, ours) != 0 || memcmp(by_them, ours, 16) != 0 || run_tag(VERIFIED, length, by_them) != 1) {
+                printf("tags of %zu bytes, C's shape %d: DIFFER\n", length, who - TAG_ONE);
+                return 0;
+            }
+            by_them[length % 16] ^= 1;
+            if (run_tag(VERIFIED, length, by_them) != 0) {
+                printf("an altered tag of %zu bytes passed\n", length);
+                return 0;
+            }
+        }
+    return 1;
+}
+
+/* ns for one of many calls, so that reading the clock weighs little */
+static double tag_often(int who, size_t length, uint8_t *tag) {
+    size_t calls = length < 65536 ? 65536 / length : 1;
+    double began = now();
+    for (size_t i = 0; i < calls; i++) run_tag(who, length, tag);
+    return (now() - began) / (double)calls;
+}
+
+static void tags(void) {
+    uint8_t tag[16] = {0};
+    printf("Tags at n = 1, ns a byte of the message, and in brackets that divided by ours for CBC sealing of as many bytes.\n");
+    printf("   bytes  CBC sealing  made         verified     C, 1 table   C, 8 tables\n");
+    for (size_t length = 16; length <= LONG; length *= 16) {
+        double best[TAGGERS] = {0};
+        for (int pass = 0; pass < 60; pass++)
+            for (int who = 0; who < TAGGERS; who++) keep(&best[who], tag_often(who, length, tag));
+        printf("%8zu  %11.2f", length, best[SEALED] / (double)length);
+        for (int who = 0; who < TAGGERS; who++)
+            if (who != SEALED) printf("  %5.2f (%.2f)", best[who] / (double)length, best[who] / best[SEALED]);
+        printf("\n");
+    }
+}
+
 /* ns for one of many calls, so that reading the clock weighs little */
 static double run_often(int kind, int n, size_t length) {
     size_t calls = length < 65536 ? 65536 / length : 1;
@@ -233,8 +290,10 @@ int main(void) {
     for (int kind = 0; kind < KINDS; kind++)
         for (int size = 0; size < 3; size++)
             if (!same_bytes(kind, 1 << size)) return 1;
+    if (!same_tags()) return 1;
     if (others_version() && !(others_work(CAMELLIA) && others_work(ARIA))) return 1;
     ratios();
+    tags();
     growth();
     expansion();
     short_runs();

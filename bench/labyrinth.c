@@ -198,3 +198,37 @@ void lab_run(enum lab_shape shape, enum lab_kind kind, int n, const uint64_t *k,
     };
     RUNS[shape][n / 2](kind, k, start, src, dst, blocks);
 }
+
+/* x doubled, its last byte least */
+static void twice(uint8_t *x) {
+    unsigned carry = 0x87 * (x[0] >> 7u);
+    for (int i = 15; i >= 0; i--) {
+        unsigned sum = 2u * x[i];
+        x[i] = (uint8_t)(sum ^ carry);
+        carry = sum >> 8;
+    }
+}
+
+INLINE void tag_(int wide, const uint64_t *k, const uint8_t *message, size_t length, uint8_t *c) {
+    uint8_t mask[16] = {0}, last[16] = {0}, x[16];
+    memset(c, 0, 16);
+    for (; length > 16; length -= 16, message += 16) {
+        xor_bytes(16, x, c, message);
+        block(1, wide, k, x, c);
+    }
+    block(1, wide, k, mask, mask);
+    twice(mask);
+    memcpy(last, message, length);
+    if (length < 16) {
+        last[length] = 0x80;
+        twice(mask);
+    }
+    xor_bytes(16, x, last, mask);
+    xor_bytes(16, x, x, c);
+    block(1, wide, k, x, c);
+}
+
+void lab_tag(enum lab_shape shape, const uint64_t *k, const uint8_t *message, size_t length, uint8_t tag[16]) {
+    if (shape == LAB_ONE) tag_(0, k, message, length, tag);
+    else tag_(1, k, message, length, tag);
+}

@@ -12,3 +12,5 @@ void lab_init(void);
 void lab_schedule(int n, const uint64_t *w, int back, uint64_t *k);
 /* whole blocks; n is 1, 2 or 4 */
 void lab_run(enum lab_shape shape, enum lab_kind kind, int n, const uint64_t *k, const uint8_t *start, const uint8_t *src, uint8_t *dst, size_t blocks);
+/* CMAC of a message at n = 1, block by block, by one table or by eight */
+void lab_tag(enum lab_shape shape, const uint64_t *k, const uint8_t *message, size_t length, uint8_t tag[16]);

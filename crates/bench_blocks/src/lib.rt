@@ -1,4 +1,4 @@
-// What the benchmark (bench/bench.c) times: many blocks, each by itself, under one schedule, with the tables made once; and runs.
+// What the benchmark (bench/bench.c) times: many blocks, each by itself, under one schedule, with the tables made once; runs; and tags.
 // It only states what makes it safe: the contracts of the cipher and the runs say what the bytes become.
 use labyrinth::WorkingKey;
 ghost use mathlib.Core.Path.{_≡_};
@@ -103,4 +103,16 @@ pub extern "C" fn sigourta_ctr(
     dst: &mut [u8],
 ) -> u8 {
     ctr::run(key(n, words), start, q, src, dst)
+}
+
+#[no_mangle]
+pub extern "C" fn sigourta_cmac(words: &[u64; 32], message: &[u8], tag: &mut [u8]) -> u8 {
+    cmac::make(key(1, words), message, tag)
+}
+
+// Whether the tag is the message's: 1 or 0.
+#[no_mangle]
+pub extern "C" fn sigourta_cmac_verify(words: &[u64; 32], message: &[u8], tag: &[u8]) -> u8 {
+    let v = cmac::verify(key(1, words), message, tag);
+    if v.yes { 1 } else { 0 }
 }
