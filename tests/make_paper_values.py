@@ -6,6 +6,7 @@ first line names it; the text around the blocks stays as it is.
     tests/make_paper_values.py --check    fails if the paper's blocks are not what would be written
 """
 import hashlib
+import itertools
 import json
 import os
 import re
@@ -301,14 +302,126 @@ def ctr_vectors(runs):
         yield from byte_lines("sealed", modes.ctr_crypt(cipher, start, q, plain))
 
 
+def digits(data):
+    return " ".join(data[i : i + 4].hex().upper() for i in range(0, len(data), 4))
+
+
+def card_run():
+    """What the card says (n, l, key, start block), and its sealed page."""
+    n, l = 1, 2
+    key, start = bytes_of("card key", 8 * n * l), bytes_of("card start", 16 * n)
+    return n, l, key, start, modes.ctr_crypt(lab.Labyrinth(n, key), start, 0, page(TEXT.index(".") + 1))
+
+
 def card():
     """A card as one is written, without check sums, and its sealed page."""
-    n, l, length = 1, 2, TEXT.index(".") + 1
-    key, start = bytes_of("card key", 8 * n * l), bytes_of("card start", 16 * n)
-    sealed = modes.ctr_crypt(lab.Labyrinth(n, key), start, 0, page(length))
-    digits = lambda data: " ".join(data[i : i + 4].hex().upper() for i in range(0, len(data), 4))
-    yield from (f"n        {n}", f"l        {l}", f"key      {digits(key)}", "mode     CTR", f"start    {digits(start)}", "q        0", f"length   {length}", "")
-    yield from (f"sealed   {digits(sealed[at : at + 16])}" for at in range(0, length, 16))
+    n, l, key, start, sealed = card_run()
+    yield from (f"n        {n}", f"l        {l}", f"key      {digits(key)}", "mode     CTR", f"start    {digits(start)}", "q        0")
+    yield from (f"length   {len(sealed)}", "")
+    yield from (f"sealed   {digits(sealed[at : at + 16])}" for at in range(0, len(sealed), 16))
+
+
+# ---- tags
+
+class Tags:
+    """CMAC under a key in the paper's steps, with the archivists' block map. A wrong reading exchanges steps."""
+
+    def __init__(self, key):
+        self.cipher = lab.Labyrinth(1, key)
+
+    def block(self, data):
+        return self.cipher.encrypt_block(data)
+
+    def first(self):
+        return self.block(bytes(16))
+
+    def double(self, data, order="big", place=15, reduced=None):
+        number = 2 * int.from_bytes(data, order)
+        out = bytearray((number % 2**128).to_bytes(16, order))
+        if (number >= 2**128 if reduced is None else reduced):
+            out[place] ^= 0x87
+        return bytes(out)
+
+    def masks(self):
+        one = self.double(self.first())
+        return one, self.double(one)
+
+    def mask(self, part):
+        return self.masks()[len(part) < 16]
+
+    def cut(self, message):
+        return [message[at : at + 16] for at in range(0, len(message), 16)] or [b""]
+
+    def filled(self, part, byte=b"\x80"):
+        return part if len(part) == 16 else (part + byte).ljust(16, b"\x00")
+
+    def start(self):
+        return bytes(16)
+
+    def end(self, chain, part, mask):
+        return self.block(modes.xor(chain, modes.xor(part, mask)))
+
+    def whole(self, message):
+        return self.steps(message)[-1][1]
+
+    def tag(self, message, length):
+        return self.whole(message)[:length]
+
+    def steps(self, message):
+        """Names and values on the way to the 16 bytes."""
+        *before, part = self.cut(message)
+        chain = self.start()
+        for block in before:
+            chain = self.block(modes.xor(chain, block))
+        one, two = self.masks()
+        filled, mask = self.filled(part), self.mask(part)
+        return [
+            ("L", self.first()), ("K1", one), ("K2", two), ("message", message), ("last", modes.xor(filled, mask)), ("chain", chain),
+            ("whole", self.end(chain, filled, mask)),
+        ]
+
+
+def high(data):
+    return data[0] >> 7
+
+
+def key_with(label, l, bits):
+    """The first of the keys with this label and 0, 1, .. whose L and K1 have these highest bits."""
+    keys = (bytes_of(f"{label} {i}", 8 * l) for i in itertools.count())
+    return next(key for key in keys if (high(Tags(key).first()), high(Tags(key).masks()[0])) == bits)
+
+
+# l, key, the message's length and the tag's: the highest bits of L and K1 in all four ways, where K2 is used, and of L in both, where K1 is.
+CMAC_RUNS = tuple(
+    (l, key_with(f"cmac key {length}", l, bits), length, tag)
+    for l, length, tag, bits in (
+        (2, 0, 16, (0, 0)), (3, 1, 8, (0, 1)), (4, 15, 12, (1, 0)), (2, 16, 10, (0, 1)), (3, 17, 15, (1, 1)), (4, 32, 16, (1, 0)), (2, 40, 9, (0, 1)),
+    )
+)
+
+
+def made_tag(key, message, length):
+    """The archivists' tag; and the steps give it."""
+    tag = modes.cmac(lab.Labyrinth(1, key), message, length)
+    if (Tags(key).whole(message), Tags(key).tag(message, length)) != (modes.cmac(lab.Labyrinth(1, key), message), tag):
+        raise SystemExit("make_paper_values.py: the steps of CMAC are not CMAC")
+    return tag
+
+
+def cmac_vectors():
+    for at, (l, key, length, tag) in enumerate(CMAC_RUNS):
+        message = page(length)
+        yield from [""] * (at > 0)
+        yield f"cmac l {l} message {length} tag {tag}"
+        for name, data in (("key", key), *Tags(key).steps(message), ("tag", made_tag(key, message, tag))):
+            yield from byte_lines(name, data)
+
+
+def card_tag():
+    """What the card's tag adds to the card."""
+    l, length = 3, 12
+    key = bytes_of("card tag key", 8 * l)
+    yield from (f"tag      {digits(made_tag(key, card_run()[-1], length))}", f"tag-l    {l}", f"tag-key  {digits(key)}", "tagged   the sealed page")
 
 
 # ---- wrong readings: the archivists' program with a function exchanged, and put back
@@ -495,9 +608,53 @@ def wrong_counters():
             words.append("same" if got == wanted else "differs")
             if reading is up and (q == 0) != (got[: 16 * n] == wanted[: 16 * n]) and start != b"\xff" * 16 * n:
                 raise SystemExit("make_paper_values.py: another first block by the counter carried up")
-        if "differs" not in words:
-            raise SystemExit(f"make_paper_values.py: no run shows wrong reading {number}")
-        yield f"{number}   " + " ".join(f"{word:<8}" for word in words).rstrip()
+        yield shown(number, words)
+
+
+def shown(number, words):
+    """The line of a wrong reading; it must differ somewhere."""
+    if "differs" not in words:
+        raise SystemExit(f"make_paper_values.py: nothing shows wrong reading {number}")
+    return f"{number}   " + " ".join(f"{word:<8}" for word in words).rstrip()
+
+
+def wrong_tags():
+    """Wrong readings of CMAC, on each record of 11.6."""
+    def doubled(**other):
+        return dict(double=lambda self, data: Tags.double(self, data, **other))
+
+    def cut_on(self, message):
+        return [message[at : at + 16] for at in range(0, len(message) + 1, 16)]
+
+    def late(self, chain, part, mask):
+        return modes.xor(self.block(modes.xor(chain, part)), mask)
+
+    def by_u(self, data):
+        return self.cipher.decrypt_block(data)
+
+    readings = (
+        doubled(order="little", place=0),
+        doubled(place=0),
+        doubled(reduced=False),
+        doubled(reduced=True),
+        dict(masks=lambda self: (self.first(), self.double(self.first()))),
+        dict(masks=lambda self: Tags.masks(self)[::-1]),
+        dict(mask=lambda self, part: self.masks()[0]),
+        dict(filled=lambda self, part: Tags.filled(self, part, b"\x00")),
+        dict(filled=lambda self, part: Tags.filled(self, part, b"\x01")),
+        dict(cut=cut_on),
+        dict(whole=lambda self, message: Tags.whole(self, message) if message else bytes(16)),
+        dict(start=lambda self: self.first()),
+        dict(end=late),
+        dict(first=lambda self: by_u(self, bytes(16))),
+        dict(block=by_u),
+        dict(tag=lambda self, message, length: self.whole(message)[-length:]),
+    )
+    first = len(list(wrong_readings())) + len(list(wrong_counters())) + 1
+    for number, parts in enumerate(readings, first):
+        wrong = type("Wrong", (Tags,), parts)
+        words = ("same" if wrong(key).tag(page(length), tag) == made_tag(key, page(length), tag) else "differs" for _, key, length, tag in CMAC_RUNS)
+        yield shown(number, list(words))
 
 
 def values():
@@ -516,9 +673,12 @@ def values():
         "vectors-cbc": cbc_vectors(),
         "vectors-ctr": ctr_vectors(CTR_RUNS),
         "vectors-ctr-carry": ctr_vectors(CARRY_RUNS),
+        "vectors-cmac": cmac_vectors(),
         "card": card(),
+        "card-tag": card_tag(),
         "wrong-readings": wrong_readings(),
         "wrong-readings-ctr": wrong_counters(),
+        "wrong-readings-cmac": wrong_tags(),
     }
     for n in (2, 4):
         key, block, _ = traced[n]

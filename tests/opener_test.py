@@ -1,7 +1,7 @@
 #!/usr/bin/env python3
-"""tests/opener.py, a program written from docs/OPENING-A-PAGE.md alone, opens what our library sealed: random pages, all nine sizes, CBC and CTR,
-through target/dist/liblabyrinth.a, which `make lib` makes. It also agrees with every value of the paper, and opens the paper's card. Then what
-must be noticed: an altered sealed byte, another key, a wrong counter, an altered paper.
+"""tests/opener.py, a program written from docs/OPENING-A-PAGE.md's first edition alone, opens what our library sealed: random pages, all nine
+sizes, CBC and CTR, through target/dist/liblabyrinth.a, which `make lib` makes. It also agrees with the values of the paper, of the tags with what
+E gives, and opens the paper's card. Then what must be noticed: an altered sealed byte, another key, a wrong counter, an altered paper.
 
     tests/opener_test.py [SEED]    a seed to repeat a run; without it a new one, which is printed
 """
@@ -145,7 +145,7 @@ def with_the_paper(place):
     with open(copy, "w") as file:
         file.write(text[:digit] + str((int(text[digit]) + 1) % 10) + text[digit + 1 :])
     differ("an altered paper", opener_runs("check", copy).returncode, 0)
-    # runs that came into the paper after the opener was written
+    # runs that came into the paper after the opener was written; and of the tags, which it does not know, what E gives
     checker = opener.Checker(text)
     runs = checker.records("vectors-ctr-carry")
     same("the runs", len(runs), 4)
@@ -154,6 +154,14 @@ def with_the_paper(place):
         same(f"{head}: opened", opener.run("open", "ctr", n, l, v["key"], v["start"], q, v["sealed"]), v["plain"])
         counters = [v[name] for name in v if name.startswith("count-")]
         same(f"{head}: counters", [opener.counter_block(n, v["start"], q, i) for i in range(len(counters))], counters)
+    tags = checker.records("vectors-cmac")
+    same("the tags", len(tags), 7)
+    for head, v in tags:
+        l, _, length = (int(word) for word in head.split()[2::2])
+        k, last = opener.expand(v["key"], 1, l, {}), opener.xor_bytes(v["chain"], v["last"])
+        same(f"{head}: the lengths", (len(v["key"]), v["whole"][:length]), (8 * l, v["tag"]))
+        same(f"{head}: L and the whole", [opener.E(block, k, {}) for block in (bytes(16), last)], [v["L"], v["whole"]])
+        differ(f"{head}: an altered last part", opener.E(bytes([last[0] ^ 1]) + last[1:], k, {}), v["whole"])
     same("the check sums", checker.differences, 0)
     # the card, by the command
     front, back = paper.records(blocks["card"][2])

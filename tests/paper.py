@@ -24,7 +24,10 @@ FENCE = re.compile(r"^```([a-z0-9-]+)\n(.*?)^```$", re.M | re.S)
 BYTE_LINE = re.compile(r"^(\S+) +((?:[0-9A-F]{2}){1,4}(?: (?:[0-9A-F]{2}){1,4}){0,3}) +: ([0-9A-F]{4})$")
 WORD_CELL = re.compile(r"^(\S+) +(0x[0-9A-F]{16}(?: 0x[0-9A-F]{16})?)$")
 SIZES = [(n, l) for n in (1, 2, 4) for l in (2, 3, 4)]
-READ = {"blocks": 24, "byte strings": 118, "half-blocks": 396, "block vectors": 18, "CBC runs": 3, "CTR runs": 7, "traced blocks": 3}
+READ = {
+    "blocks": 27, "byte strings": 180, "half-blocks": 396, "block vectors": 18, "CBC runs": 3, "CTR runs": 7, "traced blocks": 3, "tags": 8,
+    "flipped bits of tags and messages": 2080,
+}
 
 
 class Fault(Exception):
@@ -46,7 +49,7 @@ def ours(place):
     subprocess.run(["gcc", "-shared", "-o", shared, "-Wl,--whole-archive", ARCHIVE, "-Wl,--no-whole-archive"], check=True, timeout=60)
     library = ctypes.CDLL(shared)
     library.labyrinth_mix.restype = ctypes.c_uint64
-    for name in ("encipher", "decipher", "cbc_seal", "cbc_open", "ctr"):
+    for name in ("encipher", "decipher", "cbc_seal", "cbc_open", "ctr", "cmac", "cmac_verify"):
         getattr(library, f"labyrinth_{name}").restype = ctypes.c_uint8
     return library
 
@@ -54,18 +57,39 @@ def ours(place):
 LIBRARY = None
 
 
+def called(name, *given):
+    """Calls the library's function, numbers as sizes, strings and buffers with their lengths; the number that it returns must be 0."""
+    lent = []
+    for x in given:
+        lent += [x, ctypes.c_size_t(len(x))] if isinstance(x, (bytes, ctypes.Array)) else [ctypes.c_size_t(x) if isinstance(x, int) else x]
+    same(f"the number of {name}", getattr(LIBRARY, f"labyrinth_{name}")(*lent), 0)
+
+
+def room(length):
+    return (ctypes.c_char * length)()
+
+
 @functools.lru_cache(maxsize=None)
 def our(name, n, l, key, *strings, q=None):
-    """What the library's function gives for a source, the last of the strings; its number must be 0."""
-    lent = []
-    for data in (key, *strings):
-        lent += [data, ctypes.c_size_t(len(data))]
-    if q is not None:
-        lent[4:4] = [ctypes.c_uint64(q)]
-    out = ctypes.create_string_buffer(len(strings[-1]) or 1)
-    number = getattr(LIBRARY, f"labyrinth_{name}")(ctypes.c_size_t(n), ctypes.c_size_t(l), *lent, out, ctypes.c_size_t(len(strings[-1])))
-    same(f"the number of {name}", number, 0)
-    return out.raw[: len(strings[-1])]
+    """What the library's function gives for a source, the last of the strings."""
+    out, offset = room(len(strings[-1])), [] if q is None else [ctypes.c_uint64(q)]
+    called(name, n, l, key, *strings[:-1], *offset, strings[-1], out)
+    return out.raw
+
+
+@functools.lru_cache(maxsize=None)
+def our_tag(l, key, message, length):
+    out = room(length)
+    called("cmac", l, key, message, out)
+    return out.raw
+
+
+@functools.lru_cache(maxsize=None)
+def our_answer(l, key, message, tag):
+    """The library's answer to a tag: 1 is yes, 0 is no."""
+    yes = ctypes.c_uint8(2)
+    called("cmac_verify", l, key, message, tag, ctypes.byref(yes))
+    return yes.value
 
 
 @functools.lru_cache(maxsize=None)
@@ -224,11 +248,14 @@ def wrong_readings(text):
     same("the wrong readings", text.splitlines(), made("wrong_readings"))
 
 
-def wrong_counters(text):
-    lines = text.splitlines()
-    same("the wrong readings of CTR", lines, made("wrong_counters"))
-    for line in lines:
-        same(f"a run that shows it: {line}", "differs" in line, True)
+def wrong_by(maker):
+    """Wrong readings of CTR or of CMAC: each of the seven runs or records has its word, and one at least shows the reading."""
+    def check(text):
+        lines = text.splitlines()
+        same(maker, lines, made(maker))
+        for line in lines:
+            same(f"what shows it: {line}", (len(line.split()), "differs" in line), (8, True))
+    return check
 
 
 # ---- traces
@@ -446,6 +473,58 @@ def ctr_runs(text):
     return runs
 
 
+def flipped(data):
+    """The string with each of its bits altered in turn."""
+    for at in range(8 * len(data)):
+        yield data[: at // 8] + bytes([data[at // 8] ^ 1 << at % 8]) + data[at // 8 + 1 :]
+
+
+def tagged(l, key, message, tag):
+    """A tag by both programs; ours says yes to it, and no where a bit of the tag or of the message is altered."""
+    same("the lengths", (len(key), 8 <= len(tag) <= 16), (8 * l, True))
+    same("theirs", tag.hex(), their("cmac", 1, key, message, len(tag)).hex())
+    same("ours", tag.hex(), our_tag(l, key, message, len(tag)).hex())
+    same("ours, verified", our_answer(l, key, message, tag), 1)
+    others = [*((message, other) for other in flipped(tag)), *((other, tag) for other in flipped(message))]
+    same("ours, verified, a bit altered", {our_answer(l, key, *other) for other in others}, {0})
+    COUNTED["tags"] += 1
+    COUNTED["flipped bits of tags and messages"] += len(others)
+
+
+def cmac(text):
+    """Each l, whole and short last parts, the empty message; the highest bits of L and K1 in all ways where they matter."""
+    runs = []
+    for first, *lines in records(text):
+        kind, l, length, tag_length = head(first, "l", "message", "tag")
+        same("the kind", kind, "cmac")
+        key, *found = parts(lines, "key", "L", "K1", "K2", *["message"] * (length > 0), "last", "chain", "whole", "tag")
+        if length == 0:
+            found.insert(3, b"")
+        zero, one, two, message, last, chain, whole, tag = found
+        same("the lengths", (len(message), len(whole), len(tag)), (length, 16, tag_length))
+        same("the message's text", make_paper_values.TEXT.rstrip().startswith(message.decode("ascii")), True)
+        same("L", zero, their("encrypt_block", 1, key, bytes(16)))
+        for name, source, double in (("K1", zero, one), ("K2", one, two)):
+            number = 2 * int.from_bytes(source, "big")
+            same(name, double, (number if number < 2**128 else number - 2**128 ^ 0x87).to_bytes(16, "big"))
+            same(f"theirs, {name}", double, modes._dbl(source))
+        end = message[(length - 1) // 16 * 16 :] if message else b""
+        same("the last part", last, modes.xor(end, one) if len(end) == 16 else modes.xor(end + b"\x80" + bytes(15 - len(end)), two))
+        same("the chain", chain, (bytes(16) + their("cbc_encrypt", 1, key, bytes(16), message[: length - len(end)]))[-16:])
+        same("the whole", whole, their("encrypt_block", 1, key, modes.xor(chain, last)))
+        for count in range(8, 17):
+            same(f"theirs, {count} bytes", whole[:count], their("cmac", 1, key, message, count))
+            same(f"ours, {count} bytes", (whole[:count], 1), (our_tag(l, key, message, count), our_answer(l, key, message, whole[:count])))
+        tagged(l, key, message, tag)
+        runs.append((l, length, tag_length, zero[0] >> 7, one[0] >> 7))
+    same("the messages", [length for _, length, *_ in runs], [0, 1, 15, 16, 17, 32, 40])
+    same("each l", {l for l, *_ in runs}, {2, 3, 4})
+    same("tags of 8, of 16 and of other lengths", {8, 16} < {tag for _, _, tag, *_ in runs}, True)
+    same("the highest bits where K1 is used", {zero for _, length, _, zero, _ in runs if length in (16, 32)}, {0, 1})
+    both = {(zero, one) for _, length, _, zero, one in runs if length not in (16, 32)}
+    same("the highest bits where K2 is used", both, {(0, 0), (0, 1), (1, 0), (1, 1)})
+
+
 def card(text):
     """The card, and that its page opens to the sentence in the text."""
     front, back = records(text)
@@ -460,9 +539,18 @@ def card(text):
     same("a sentence", plain.index(b".") + 1, length)
     same("theirs, opened", their("ctr_crypt", n, key, start, q, sealed), plain)
     same("ours, opened", our("ctr", n, l, key, start, sealed, q=q), plain)
+    TRACED["card"] = {"sealed": sealed}
 
 
-# in the order in which they are checked: a trace's later blocks know the key and the block of its first ones
+def card_tag(text):
+    """What the card's tag adds to the card."""
+    said = dict(line.split(maxsplit=1) for line in text.splitlines())
+    same("what the card says", list(said), ["tag", "tag-l", "tag-key", "tagged"])
+    same("the tagged bytes", said["tagged"], "the sealed page")
+    tagged(int(said["tag-l"]), bytes.fromhex(said["tag-key"]), TRACED["card"]["sealed"], bytes.fromhex(said["tag"]))
+
+
+# in the order in which they are checked: a trace's later blocks know the key and the block of its first ones, the card's tag its sealed page
 CHECKS = {
     "table-1": table_1,
     "constants": constants,
@@ -483,13 +571,21 @@ CHECKS = {
     "vectors-cbc": cbc,
     "vectors-ctr": ctr,
     "vectors-ctr-carry": ctr_carry,
+    "vectors-cmac": cmac,
     "card": card,
+    "card-tag": card_tag,
     "wrong-readings": wrong_readings,
-    "wrong-readings-ctr": wrong_counters,
+    "wrong-readings-ctr": wrong_by("wrong_counters"),
+    "wrong-readings-cmac": wrong_by("wrong_tags"),
 }
 
 
 # ---- what the text says outside the blocks
+
+def polynomial(number):
+    powers = [k for k in range(number.bit_length() - 1, -1, -1) if number >> k & 1]
+    return " + ".join({0: "1", 1: "x"}.get(k, f"x^{k}") for k in powers)
+
 
 def sentences():
     """Sentences of the paper that carry values, made from the archivists' values."""
@@ -501,8 +597,7 @@ def sentences():
         yield f"| {name} | high k_{a}, low k_{b} | {' '.join(f'k_{j}' for j in keys)} | high k_{c}, low k_{d} |"
     yield "With g_0 to g_7 = `" + " ".join(f"{g:02X}" for g in lab.G) + "`, byte i"
     yield "g(x) = " + " + ".join(f"`{lab.G[i]:02X}`" + ("", " x", f" x^{i}")[min(i, 2)] for i in range(7, -1, -1)) + ","
-    powers = [k for k in range(8, -1, -1) if lab.F_MBN >> k & 1]
-    yield "the polynomial " + " + ".join({0: "1", 1: "x"}.get(k, f"x^{k}") for k in powers) + f", written 0x{lab.F_MBN:X}"
+    yield f"the polynomial {polynomial(lab.F_MBN)}, written 0x{lab.F_MBN:X}"
     yield "all bytes " + ", ".join(f"`{lab.XC[t] & 255:02X}` for t = {t}" for t in range(4))
     yield f"add 0x{make_paper_values.ADDED:016X} modulo 2^64, then XOR 0x{make_paper_values.XORED:016X}"
     yield f"S(`53`) stands in line `50`, column `03`, and is `{lab.S[0x53]:02X}`"
@@ -513,8 +608,22 @@ def sentences():
     yield "\n\n1. The sum of the products is rotated"
     yield f"\n{len(made('wrong_readings'))}. FT adds its key.\n\n"
     yield f"\n\n{len(made('wrong_readings')) + 1}. The counter is carried from byte 0 up"
-    yield f"\n{len(made('wrong_readings')) + len(made('wrong_counters'))}. U is used in place of E.\n\n"
+    tags = len(made("wrong_readings")) + len(made("wrong_counters")) + 1
+    yield f"\n{tags - 1}. U is used in place of E.\n\n"
+    yield f"\n\n{tags}. Doubling takes byte 0 for the least"
+    yield f"\n{tags + len(made('wrong_tags')) - 1}. The last bytes of the whole are taken for the tag.\n\n"
+    constant = modes._dbl(b"\x80" + bytes(15))[15]
+    yield f"XOR the last byte, byte 15, with `{constant:02X}`."
+    for front, back in (("and", " This"), (";", "\n")):
+        yield f"{front} doubling is multiplication by x in GF(2^128) modulo {polynomial(2**128 + constant)}.{back}"
+    zeros = [their("encrypt_block", 1, key, bytes(16)) for _, key, *_ in make_paper_values.CMAC_RUNS]
+    yield "record by record: " + ", ".join(f"{zero[0] >> 7} {modes._dbl(zero)[0] >> 7}" for zero in zeros) + "."
+    yield "`cmac l {0} message {2} tag {3}`".format(*make_paper_values.CMAC_RUNS[1])
+    whole = [str(length) for _, _, length, _ in make_paper_values.CMAC_RUNS if length and length % 16 == 0]
+    yield f"K1 is used where the message has {' and '.join(whole)} bytes,"
     text = make_paper_values.TEXT
+    kept = next(make_paper_values.card_tag()).split()[1:]
+    yield f"the tag, of {len(''.join(kept)) // 2} bytes, of the {text.index('.') + 1} sealed bytes"
     yield f'as ASCII: "{text[: text.index(".") + 1]}"\n'
     yield f"the sealed page of {text.index('.') + 1} bytes"
     yield f'without line ends: "{text.rstrip()}"\n'
@@ -525,6 +634,7 @@ def sentences():
     alone = [(length, sizes[0]) for length, sizes in sorted(by.items()) if len(sizes) == 1]
     listed = lambda words: ", ".join(words[:-1]) + " and " + words[-1]
     yield f"{listed([str(length) for length, _ in alone])} bytes are (n, l) = {listed([size for _, size in alone])};"
+    yield f"{listed([str(8 * l) for l in (2, 3, 4)])} bytes are l = {listed(['2', '3', '4'])}."
     yield "; ".join(f"{length} bytes are {' or '.join(sizes)}" for length, sizes in sorted(by.items()) if len(sizes) == 2) + "."
 
 
