@@ -48,7 +48,7 @@ fi
 
 # ---- the paper for the successor
 tests/paper.py || fail "the paper for the successor"
-tests/opener_test.py || fail "the opener written from the paper"
+tests/opener_test.py || fail "the opener and the verifier written from the paper"
 
 [ "$failures" -eq 0 ] || { echo "gate: $failures checks failed"; exit 1; }
 echo "$last"

@@ -421,7 +421,8 @@ def card_tag():
     """What the card's tag adds to the card."""
     l, length = 3, 12
     key = bytes_of("card tag key", 8 * l)
-    yield from (f"tag      {digits(made_tag(key, card_run()[-1], length))}", f"tag-l    {l}", f"tag-key  {digits(key)}", "tagged   the sealed page")
+    yield from (f"tag        {digits(made_tag(key, card_run()[-1], length))}", f"tag-length {length}")
+    yield from (f"tag-l      {l}", f"tag-key    {digits(key)}", "tagged     the sealed page")
 
 
 # ---- wrong readings: the archivists' program with a function exchanged, and put back

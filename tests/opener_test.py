@@ -1,11 +1,15 @@
 #!/usr/bin/env python3
 """tests/opener.py, a program written from docs/OPENING-A-PAGE.md's first edition alone, opens what our library sealed: random pages, all nine
-sizes, CBC and CTR, through target/dist/liblabyrinth.a, which `make lib` makes. It also agrees with the values of the paper, of the tags with what
-E gives, and opens the paper's card. Then what must be noticed: an altered sealed byte, another key, a wrong counter, an altered paper.
+sizes, CBC and CTR, through target/dist/liblabyrinth.a, which `make lib` makes. tests/verifier.py, written from the second edition and the opener
+alone, makes the tags that our library makes, and both say yes and no to the same. Both programs agree with the values of the paper, the opener of the
+tags with what E gives; they open the paper's card and verify its tag. Then what must be noticed: an altered sealed byte, an altered bit of tag, message
+or key, another key, a wrong counter, wrong masks, an altered paper.
 
     tests/opener_test.py [SEED]    a seed to repeat a run; without it a new one, which is printed
 """
+import contextlib
 import hashlib
+import io
 import os
 import random
 import subprocess
@@ -14,15 +18,22 @@ import tempfile
 
 sys.dont_write_bytecode = True
 HERE = os.path.dirname(os.path.abspath(__file__))
-OPENER = os.path.join(HERE, "opener.py")
+OPENER, VERIFIER = os.path.join(HERE, "opener.py"), os.path.join(HERE, "verifier.py")
 sys.path.insert(0, HERE)
+import make_paper_values
 import opener
 import paper
+import verifier
 
-WRITTEN = "cf5e5b42334352123761949f7a86983bb3adf21c2f8c9143e117b3384fd5f862"  # SHA-256 of tests/opener.py as it was written
-CHECKED = 996  # values that the opener's own check compares
+# SHA-256 of each program as it was written
+WRITTEN = {
+    OPENER: "cf5e5b42334352123761949f7a86983bb3adf21c2f8c9143e117b3384fd5f862",
+    VERIFIER: "8ce88397172defc8fe2f7cde41836263f3be50de593d9884f5e276fc84ceba40",
+}
+CHECKED = {OPENER: "996 checked", VERIFIER: "209 compared"}  # what each program's own check says of the paper
+COUNTS = {"CBC pages": 45, "CTR pages": 171, "tags": 315, "tags that get a no": 678, "refusals": 18, "alterations": 114}
 FAILURES = []
-COUNTED = {"CBC pages": 0, "CTR pages": 0, "alterations": 0}
+COUNTED = dict.fromkeys(COUNTS, 0)
 
 
 def same(what, got, wanted):
@@ -125,18 +136,111 @@ def wrong_counter(rng):
     opener.counter_block = right
 
 
+# ---- tags
+
+def answers(l, key, message, tag):
+    """The verifier's answer to a tag and ours: 1 is yes, 0 is no."""
+    return int(verifier.verify(l, key, message, tag)), paper.our_answer(l, key, message, tag)
+
+
+def tag_by_tag(rng):
+    """Each length to four blocks and 1 byte, then those about whole blocks, then any; tags of each length, of whole and of short last parts."""
+    lengths = [*range(66), *(16 * count + more for count in range(5, 17) for more in (-1, 0, 1)), *(rng.randrange(258, 500) for _ in range(3))]
+    kinds = set()
+    for l in (2, 3, 4):
+        for length in lengths:
+            key, message, size = rng.randbytes(8 * l), rng.randbytes(length), 8 + (length + length // 16) % 9
+            name, tag = f"l {l}, {length} bytes, a tag of {size}", paper.our_tag(l, key, message, size)
+            same(f"{name}: made", verifier.tag(l, key, message, size).hex(), tag.hex())
+            same(f"{name}: the answers", answers(l, key, message, tag), (1, 1))
+            kinds.add((l, size, length > 0 and length % 16 == 0))
+            COUNTED["tags"] += 1
+    same("the kinds of tags", len(kinds), 3 * 9 * 2)
+
+
+def bit_by_byte(data, rng):
+    """The string with a bit of each of its bytes altered in turn."""
+    flips = [*paper.flipped(data)]
+    return [rng.choice(flips[at : at + 8]) for at in range(0, len(flips), 8)]
+
+
+def other_tags(rng):
+    """An altered bit of tag, message or key, or another end of the message, gets a no. A tag cut short gets a yes, down to 8 bytes."""
+    for l in (2, 3, 4):
+        for length, size in ((0, 16), (15, 8), (16, 11), (33, 16)):
+            key, message = rng.randbytes(8 * l), rng.randbytes(length)
+            name, whole = f"l {l}, {length} bytes", paper.our_tag(l, key, message, 16)
+            tag = whole[:size]
+            ends = [message + b"\x00", message + b"\x80", message.ljust(48, b"\x00"), *[message[:-1]] * (length > 0)]
+            others = [("tag", key, message, other) for other in bit_by_byte(tag, rng)]
+            others += [("message", key, other, tag) for other in (*bit_by_byte(message, rng), *ends)]
+            others += [("key", other, message, tag) for other in bit_by_byte(key, rng)]
+            for what, *other in others:
+                same(f"{name}, a tag of {size}, another {what}: the answers", answers(l, *other), (0, 0))
+                COUNTED["tags that get a no"] += 1
+            same(f"{name}: the answers to a tag cut short", {answers(l, key, message, whole[:count]) for count in range(8, 17)}, {(1, 1)})
+
+
+def refused_tags(rng):
+    """Tags of other lengths than 8 to 16: both programs refuse to make and to verify them, ours with the number 11 and without a yes."""
+    for l in (2, 3, 4):
+        key, message = rng.randbytes(8 * l), rng.randbytes(l)
+        whole = paper.our_tag(l, key, message, 16)
+        for given in (b"", whole[:7], whole + b"\x00"):
+            name = f"l {l}, a tag of {len(given)}"
+            ours = paper.our_tag(l, key, message, len(given), number=11), paper.our_answer(l, key, message, given, number=11)
+            same(f"{name}: ours", ours, (bytes(len(given)), 0))
+            for call, last in ((verifier.tag, len(given)), (verifier.verify, given)):
+                with contextlib.suppress(ValueError):
+                    same(f"{name}: the verifier's", call(l, key, message, last), "a refusal")
+                COUNTED["refusals"] += 1
+
+
+def wrong_masks(rng):
+    """With masks that are not doubled the verifier's tags would not be ours."""
+    right, verifier.double = verifier.double, lambda string: string
+    for l in (2, 3, 4):
+        for length in (0, 16, 40):
+            key, message = rng.randbytes(8 * l), rng.randbytes(length)
+            tag = paper.our_tag(l, key, message, 8)
+            differ(f"l {l}, {length} bytes: masks not doubled", verifier.tag(l, key, message, 8), tag)
+            differ(f"l {l}, {length} bytes: verified with masks not doubled", verifier.verify(l, key, message, tag), True)
+    verifier.double = right
+
+
 # ---- the paper
 
-def opener_runs(*words):
-    return subprocess.run([sys.executable, "-B", OPENER, *words], capture_output=True, text=True, timeout=60)
+def command(program, *words):
+    return subprocess.run([sys.executable, "-B", program, *words], capture_output=True, text=True, timeout=60)
 
 
-def with_the_paper(place):
+def checked(program):
+    """The program's own check of the paper."""
+    done = command(program, "check", paper.PAPER)
+    last = [" ".join(line.split()) for line in done.stdout.splitlines()[-1:]]
+    same(f"the check of {os.path.basename(program)}", (done.returncode, last), (0, [f"all {CHECKED[program]}, 0 different"]))
+
+
+def altered_tags(text, blocks, rng):
+    """What of the tags was altered, and the paper with it: a bit under each name in 11.6, with its check sum; a digit of the card; the prose."""
+    lines = [line for line in blocks["vectors-cmac"][2].splitlines() if " : " in line]
+    for name in sorted({line.split()[0] for line in lines}):
+        line = rng.choice([line for line in lines if line.split()[0] == name])
+        (other,) = make_paper_values.byte_lines(name, rng.choice([*paper.flipped(paper.byte_line(line)[1])]))
+        yield line, text.replace(line, other)
+    for block in ("card", "card-tag"):
+        for line, other in paper.altered(blocks[block][2]):
+            if line.split()[0] in ("length", "sealed", "tag", "tag-l", "tag-key"):
+                yield line, text.replace(blocks[block][2], other)
+    for said, other in (("the sealed page\n```", "the opened page\n```"), ("by record: 0 0,", "by record: 0 1,"), ("16 or 32 bytes, K2", "16 or 40 bytes, K2")):
+        yield said, text.replace(said, other)
+
+
+def with_the_paper(place, rng):
     with open(paper.PAPER) as file:
         text = file.read()
-    done = opener_runs("check", paper.PAPER)
-    last = done.stdout.splitlines()[-1:]
-    same("the opener's check", (done.returncode, [line.split() for line in last]), (0, [["all", str(CHECKED), "checked,", "0", "different"]]))
+    for program in CHECKED:
+        checked(program)
     # an altered paper
     blocks = {match[1]: match for match in paper.FENCE.finditer(text)}
     middle = blocks["vectors-mixed"].end() - 20
@@ -144,7 +248,13 @@ def with_the_paper(place):
     copy = os.path.join(place, "altered.md")
     with open(copy, "w") as file:
         file.write(text[:digit] + str((int(text[digit]) + 1) % 10) + text[digit + 1 :])
-    differ("an altered paper", opener_runs("check", copy).returncode, 0)
+    differ("an altered paper", command(OPENER, "check", copy).returncode, 0)
+    for line, other in altered_tags(text, blocks, rng):
+        with open(copy, "w") as file:
+            file.write(other)
+        with contextlib.redirect_stdout(io.StringIO()):
+            status = verifier.check(copy)
+        differ(f"an altered paper: {line}", status, 0)
     # runs that came into the paper after the opener was written; and of the tags, which it does not know, what E gives
     checker = opener.Checker(text)
     runs = checker.records("vectors-ctr-carry")
@@ -170,17 +280,26 @@ def with_the_paper(place):
     with open(sealed, "wb") as file:
         file.write(bytes.fromhex("".join(line.split(maxsplit=1)[1] for line in back)))
     words = ["-n", said["n"], "-l", said["l"], "--key", said["key"], "--start", said["start"], "--offset", said["q"]]
-    done = opener_runs("open", "--mode", said["mode"].lower(), *words, sealed, opened)
+    done = command(OPENER, "open", "--mode", said["mode"].lower(), *words, sealed, opened)
     same("the card", (done.returncode, done.stderr), (0, ""))
     with open(opened, "rb") as file:
         letters = file.read().decode("ascii", "replace")
     same("the card's page is in the text", f'as ASCII: "{letters}"\n' in text, True)
+    # its tag
+    said = dict(line.split(maxsplit=1) for line in blocks["card-tag"][2].splitlines())
+    words, tag = ["-l", said["tag-l"], "--key", said["tag-key"]], bytes.fromhex(said["tag"])
+    done = command(VERIFIER, "tag", *words, "--length", said["tag-length"], sealed)
+    same("the card's tag, made", (done.returncode, done.stdout), (0, tag.hex().upper() + "\n"))
+    for given, wanted in ((tag, (0, "yes\n")), (tag[:8], (0, "yes\n")), (next(paper.flipped(tag)), (1, "no\n")), (tag[:7], (2, ""))):
+        done = command(VERIFIER, "verify", *words, "--tag", given.hex(), sealed)
+        same(f"the card's tag, {given.hex()}", (done.returncode, done.stdout), wanted)
 
 
 def as_written():
-    """The opener is never mended to agree with ours."""
-    with open(OPENER, "rb") as file:
-        same("tests/opener.py was altered", hashlib.sha256(file.read()).hexdigest(), WRITTEN)
+    """The two programs are never mended to agree with ours."""
+    for program, wanted in WRITTEN.items():
+        with open(program, "rb") as file:
+            same(f"tests/{os.path.basename(program)} was altered", hashlib.sha256(file.read()).hexdigest(), wanted)
 
 
 def main(words):
@@ -193,13 +312,18 @@ def main(words):
         page_by_page(rng)
         alterations(rng)
         wrong_counter(rng)
-        with_the_paper(place)
+        tag_by_tag(rng)
+        other_tags(rng)
+        refused_tags(rng)
+        wrong_masks(rng)
+        with_the_paper(place, rng)
         as_written()
+    same("tried", COUNTED, COUNTS)
     for failure in FAILURES:
         print(f"opener: FAILED: {failure}")
     counts = ", ".join(f"{count} {what}" for what, count in COUNTED.items())
-    print(f"opener: seed {seed}: {counts} tried, {CHECKED} values of the paper; {len(FAILURES)} failures")
-    sys.exit(1 if FAILURES or not all(COUNTED.values()) else 0)
+    print(f"opener: seed {seed}: {counts} tried, {' and '.join(CHECKED.values())} with the paper; {len(FAILURES)} failures")
+    sys.exit(1 if FAILURES else 0)
 
 
 if __name__ == "__main__":

@@ -57,12 +57,12 @@ def ours(place):
 LIBRARY = None
 
 
-def called(name, *given):
-    """Calls the library's function, numbers as sizes, strings and buffers with their lengths; the number that it returns must be 0."""
+def called(name, *given, number=0):
+    """Calls the library's function, numbers as sizes, strings and buffers with their lengths; it must return this number."""
     lent = []
     for x in given:
         lent += [x, ctypes.c_size_t(len(x))] if isinstance(x, (bytes, ctypes.Array)) else [ctypes.c_size_t(x) if isinstance(x, int) else x]
-    same(f"the number of {name}", getattr(LIBRARY, f"labyrinth_{name}")(*lent), 0)
+    same(f"the number of {name}", getattr(LIBRARY, f"labyrinth_{name}")(*lent), number)
 
 
 def room(length):
@@ -78,17 +78,17 @@ def our(name, n, l, key, *strings, q=None):
 
 
 @functools.lru_cache(maxsize=None)
-def our_tag(l, key, message, length):
+def our_tag(l, key, message, length, number=0):
     out = room(length)
-    called("cmac", l, key, message, out)
+    called("cmac", l, key, message, out, number=number)
     return out.raw
 
 
 @functools.lru_cache(maxsize=None)
-def our_answer(l, key, message, tag):
+def our_answer(l, key, message, tag, number=0):
     """The library's answer to a tag: 1 is yes, 0 is no."""
     yes = ctypes.c_uint8(2)
-    called("cmac_verify", l, key, message, tag, ctypes.byref(yes))
+    called("cmac_verify", l, key, message, tag, ctypes.byref(yes), number=number)
     return yes.value
 
 
@@ -545,9 +545,10 @@ def card(text):
 def card_tag(text):
     """What the card's tag adds to the card."""
     said = dict(line.split(maxsplit=1) for line in text.splitlines())
-    same("what the card says", list(said), ["tag", "tag-l", "tag-key", "tagged"])
-    same("the tagged bytes", said["tagged"], "the sealed page")
-    tagged(int(said["tag-l"]), bytes.fromhex(said["tag-key"]), TRACED["card"]["sealed"], bytes.fromhex(said["tag"]))
+    same("what the card says", list(said), ["tag", "tag-length", "tag-l", "tag-key", "tagged"])
+    tag = bytes.fromhex(said["tag"])
+    same("the tag's length and the tagged bytes", (said["tag-length"], said["tagged"]), (str(len(tag)), "the sealed page"))
+    tagged(int(said["tag-l"]), bytes.fromhex(said["tag-key"]), TRACED["card"]["sealed"], tag)
 
 
 # in the order in which they are checked: a trace's later blocks know the key and the block of its first ones, the card's tag its sealed page
@@ -620,7 +621,7 @@ def sentences():
     yield "record by record: " + ", ".join(f"{zero[0] >> 7} {modes._dbl(zero)[0] >> 7}" for zero in zeros) + "."
     yield "`cmac l {0} message {2} tag {3}`".format(*make_paper_values.CMAC_RUNS[1])
     whole = [str(length) for _, _, length, _ in make_paper_values.CMAC_RUNS if length and length % 16 == 0]
-    yield f"K1 is used where the message has {' and '.join(whole)} bytes,"
+    yield f"K1 is used as the mask where the message has {' or '.join(whole)} bytes,"
     text = make_paper_values.TEXT
     kept = next(make_paper_values.card_tag()).split()[1:]
     yield f"the tag, of {len(''.join(kept)) // 2} bytes, of the {text.index('.') + 1} sealed bytes"
