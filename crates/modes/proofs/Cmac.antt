@@ -18,16 +18,13 @@ use Rattle.modes.specs.Strings.{xorBytes, number, string, same}
 use Rattle.modes.specs.Ctr.{blocks}
 use Rattle.modes.specs.Cbc.{sealBlocks, before}
 use Rattle.modes.specs.Cmac.{doubled, K1, K2, blockCount, pad, lastBlock, chain, mac, tag, valid}
-use Rattle.modes.proofs.Strings.{length-xorBytes, length-shorter, take-xorBytes, xorBytes-comm, length-string, no-block, length-rest, first-within, same-refl, same-eq}
+use Rattle.modes.proofs.Strings.{length-xorBytes, length-shorter, take-xorBytes, xorBytes-comm, bytes-xorBytes, length-string, bytes-string, no-block, length-rest, first-within, same-refl, same-eq}
 use Rattle.modes.proofs.Maps.{Keeps}
 use Rattle.modes.proofs.Cbc.{before-next}
 
 -- ---- block maps that agree
 
 module _ (e f : List ℕ → List ℕ) (h : (b : List ℕ) → e b ≡ f b) where
-  pub mac-cong : (m : List ℕ) → mac e m ≡ mac f m
-  mac-cong m = ap (λ (g : List ℕ → List ℕ). mac g m) (fun-ext h)
-
   pub tag-cong : (t : ℕ) (m : List ℕ) → tag e t m ≡ tag f t m
   tag-cong t m = ap (λ (g : List ℕ → List ℕ). tag g t m) (fun-ext h)
 
@@ -47,6 +44,17 @@ length-doubled x = either (ltb (number x) (2 ^ 127))
     either true = length-string 16 (2 * number x)
     either false =
         length-xorBytes shifted (string 16 0x87) (omega (arith, length-string 16 (2 * number x), length-string 16 0x87)) ∙ length-string 16 (2 * number x)
+
+pub bytes-doubled : (x : List ℕ) → Bytes (doubled x)
+unfolding doubled
+bytes-doubled x = either (ltb (number x) (2 ^ 127))
+  where
+    shifted : List ℕ
+    shifted = string 16 (2 * number x)
+
+    either : (b : Bool) → Bytes (when b shifted (xorBytes shifted (string 16 0x87)))
+    either true = bytes-string 16 (2 * number x)
+    either false = bytes-xorBytes shifted (string 16 0x87) (bytes-string 16 (2 * number x)) (bytes-string 16 0x87)
 
 pub length-pad : (last : List ℕ) → length last < 16 → length (pad last) ≡ 16
 unfolding pad

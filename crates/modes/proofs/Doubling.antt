@@ -12,7 +12,8 @@ use lib.Bits.{bitXor, xor-mod, xor-shifted, xor-zero-l}
 use lib.Dec.{ltb, lit<}
 use lib.ListN.{length, getD}
 use lib.Pow.{pow-pos}
-use Rattle.field.specs.Lists.{when, xorSum}
+use Rattle.field.specs.Lists.{tabulate, when, xorSum}
+use Rattle.field.specs.Words.{byte, join}
 use Rattle.field.specs.Field.{polyMul}
 use Rattle.field.proofs.Xor.{xors}
 use Rattle.field.proofs.Degree.{remainder-unique}
@@ -124,3 +125,16 @@ doubled-remainder x l h = either (ltb (number x) (2 ^ 127)) (ltb-true (number x)
 pub only-remainder : (a r s : ℕ) → Remainder a r → Remainder a s → r ≡ s
 unfolding modulus
 only-remainder a r s p q = remainder-unique 129 128 0x87 (lit< tt) one-multiple (p .quotient) r (q .quotient) s (p .small) (q .small) (sym (p .rest) ∙ q .rest)
+
+-- ---- SP 800-38B, appendix D.1 to D.3: L, K1 and K2 of AES with keys of 128, 192 and 256 bits
+
+-- L gives K1, and K1 gives K2
+abbrev pub Gives : ℕ → ℕ → ℕ → Type 0
+Gives l k1 k2 = (doubled (string 16 l) ≡ string 16 k1) × (doubled (string 16 k1) ≡ string 16 k2)
+
+pub examples :
+    Gives 0x7df76b0c1ab899b33e42f047b91b546f 0xfbeed618357133667c85e08f7236a8de 0xf7ddac306ae266ccf90bc11ee46d513b
+    × Gives 0x22452d8e49a8a5939f7321ceea6d514b 0x448a5b1c93514b273ee6439dd4daa296 0x8914b63926a2964e7dcc873ba9b5452c
+    × Gives 0xe568f68194cf76d6174d4cc04310a854 0xcad1ed03299eedac2e9a99808621502f 0x95a3da06533ddb585d3533010c42a0d9
+unfolding doubled number string xorBytes join byte tabulate
+examples = ((refl, refl), (refl, refl), (refl, refl))

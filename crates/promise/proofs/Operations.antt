@@ -1,14 +1,17 @@
--- The operations do what the demands say: what the contract of each tells its caller, for all arguments, is the statement; and each function
+-- The operations do what the demands and the change requests say: what the contract of each tells its caller, for all arguments, is the statement; and each function
 -- meets its contract.
 -- Assumes nothing.
 use Prim.Native.Nat.{ℕ}
-use mathlib.Core.Path.{_≡_}
+use mathlib.Core.Path.{_≡_, sym, ap, _∙_}
 use contract.Lifetimes.{Lfts}
+use borrow.Author.Tests.{eq-eqb, eqb-true}
 use lib.ListN.{length}
 use Rattle.field.specs.Mixing.{mix}
 use Rattle.field.specs.Published.{row}
-use Rattle.modes.specs.Refusals.{cbcRefusal, ctrRefusal}
+use Rattle.modes.specs.Refusals.{cbcRefusal, ctrRefusal, cmacRefusal}
+use Rattle.cmac.specs.declared.Verified.{Verified}
 use Rattle.promise.specs.Demands.{Steps, WorksTape, Expands, Enciphers, Deciphers, SealsCbc, OpensCbc, RunsCtr, ComesBack}
+use Rattle.promise.specs.Requests.{MakesTag, VerifiesTag, GetsYes}
 use Rattle.tape.proofs.step as tape-step
 use Rattle.tape_run.proofs.run as tape-run
 use Rattle.expansion.proofs.expand as expand
@@ -19,6 +22,9 @@ use Rattle.matrix_cipher.proofs.decipher_by_matrix as decipher-by-matrix
 use Rattle.cbc.proofs.seal as seal
 use Rattle.cbc.proofs.open as cbc-open
 use Rattle.ctr.proofs.run as run
+use Rattle.cmac.proofs.make as make
+use Rattle.cmac.proofs.verify as verify
+use Rattle.round_trips.proofs.tag_made_and_verified as tag-made-and-verified
 use Rattle.round_trips.proofs.cbc_there_and_back as cbc-there-and-back
 use Rattle.round_trips.proofs.ctr_there_and_back as ctr-there-and-back
 use Rattle.mixing.proofs.mix as mix-word
@@ -91,6 +97,22 @@ module _ (κs : Lfts 0) where
   pub mixes : (a : _) (z : _) (e : _) → mix-word.Reads.Learnt κs a z e → z ≡ mix row (a .0)
   mixes a z e h = h
 
+-- ---- document 02, Job 1
+
+module _ (κs : Lfts 2) where
+  pub makes-tag : (a : _) (z : _) (e : _) → make.Reads.Learnt κs a z e → MakesTag (a .0) (a .1 .0 .now) z (a .1 .1 .0 .now) (e .1 .1 .0 .now)
+  makes-tag a z e h = h
+
+  pub verifies-tag : (a : _) (z : _) (e : _) → verify.Reads.Learnt κs a z e → VerifiesTag (a .0) (a .1 .0 .now) (a .1 .1 .0 .now) z
+  verifies-tag a z e h = h
+
+  pub gets-yes : (a : _) (z : _) (e : _) → tag-made-and-verified.Reads.Learnt κs a z e → GetsYes (cmacRefusal (a .0 .n) (length (a .1 .1 .0 .now))) z
+  gets-yes a z e h =
+      let r = cmacRefusal (a .0 .n) (length (a .1 .1 .0 .now)) in (
+        ap (λ (v : Verified). v .number) (h .0),
+        (λ y. eqb-true r 0 (sym (ap (λ (v : Verified). v .yes) (h .0)) ∙ y), λ p. ap (λ (v : Verified). v .yes) (h .0) ∙ eq-eqb r 0 p),
+      )
+
 -- ---- every function named here meets its contract
 
 module _ {M : Type 1} where
@@ -129,6 +151,15 @@ module _ {M : Type 1} where
 
   pub ctr-there-and-back-met : ctr-there-and-back.Statement.statement M
   ctr-there-and-back-met = ctr-there-and-back.Met.met
+
+  pub make-met : make.Statement.statement M
+  make-met = make.Met.met
+
+  pub verify-met : verify.Statement.statement M
+  verify-met = verify.Met.met
+
+  pub tag-made-and-verified-met : tag-made-and-verified.Statement.statement M
+  tag-made-and-verified-met = tag-made-and-verified.Met.met
 
   pub mix-met : mix-word.Statement.statement M
   mix-met = mix-word.Met.met
