@@ -115,9 +115,9 @@ pub fn verify(k: WorkingKey, message: &[u8], tag: &[u8]) -> Verified
             yes: false,
         };
     }
-    let last = chained(k, message);
+    let made = chained(k, message);
     Verified {
         number: 0,
-        yes: strings::equal(&last[..size], tag),
+        yes: strings::equal(&made[..size], tag),
     }
 }

@@ -33,28 +33,23 @@ module _ (e f : List ℕ → List ℕ) (h : (b : List ℕ) → e b ≡ f b) wher
 
 -- ---- lengths
 
+-- a doubled block is a block, whatever is XORed into it
+module _ (v c : ℕ) where
+  length-either : (b : Bool) → length (when b (string 16 v) (xorBytes (string 16 v) (string 16 c))) ≡ 16
+  length-either true = length-string 16 v
+  length-either false = length-xorBytes (string 16 v) (string 16 c) (omega (arith, length-string 16 v, length-string 16 c)) ∙ length-string 16 v
+
+  bytes-either : (b : Bool) → Bytes (when b (string 16 v) (xorBytes (string 16 v) (string 16 c)))
+  bytes-either true = bytes-string 16 v
+  bytes-either false = bytes-xorBytes (string 16 v) (string 16 c) (bytes-string 16 v) (bytes-string 16 c)
+
 pub length-doubled : (x : List ℕ) → length (doubled x) ≡ 16
 unfolding doubled
-length-doubled x = either (ltb (number x) (2 ^ 127))
-  where
-    shifted : List ℕ
-    shifted = string 16 (2 * number x)
-
-    either : (b : Bool) → length (when b shifted (xorBytes shifted (string 16 0x87))) ≡ 16
-    either true = length-string 16 (2 * number x)
-    either false =
-        length-xorBytes shifted (string 16 0x87) (omega (arith, length-string 16 (2 * number x), length-string 16 0x87)) ∙ length-string 16 (2 * number x)
+length-doubled x = length-either (2 * number x) _ (ltb (number x) (2 ^ 127))
 
 pub bytes-doubled : (x : List ℕ) → Bytes (doubled x)
 unfolding doubled
-bytes-doubled x = either (ltb (number x) (2 ^ 127))
-  where
-    shifted : List ℕ
-    shifted = string 16 (2 * number x)
-
-    either : (b : Bool) → Bytes (when b shifted (xorBytes shifted (string 16 0x87)))
-    either true = bytes-string 16 (2 * number x)
-    either false = bytes-xorBytes shifted (string 16 0x87) (bytes-string 16 (2 * number x)) (bytes-string 16 0x87)
+bytes-doubled x = bytes-either (2 * number x) _ (ltb (number x) (2 ^ 127))
 
 pub length-pad : (last : List ℕ) → length last < 16 → length (pad last) ≡ 16
 unfolding pad

@@ -54,6 +54,24 @@ ctr-taken n start s d p e =
     let h = ctr-iff n start s d .0 (sym p ∙ e) in
     record { size = legal-size-of n (legal-iff n .1 (h .0)); start = h .1; same = h .2 }
 
+-- a tag: 12 for n = 2 and 4 whatever its length, then 11 for a length that is none
+module _ (n t : ℕ) where
+  pub cmac-large : legal n ≡ true → (n ≡ 1 → ⊥) → 12 ≡ cmacRefusal n t
+  unfolding cmacRefusal cmacLengths
+  cmac-large l h = rw (l, ne-eqb n 1 h)
+
+  pub cmac-short : n ≡ 1 → t < 8 → 11 ≡ cmacRefusal n t
+  unfolding cmacRefusal cmacLengths
+  cmac-short e h = rw (legal-iff n .1 (inl e), eq-eqb n 1 e, lt-leb 8 t h)
+
+  pub cmac-long : n ≡ 1 → 16 < t → 11 ≡ cmacRefusal n t
+  unfolding cmacRefusal cmacLengths
+  cmac-long e h = rw (legal-iff n .1 (inl e), eq-eqb n 1 e, lt-leb t 16 h) (without (leb 8 t))
+    where
+      without : (b : Bool) → 11 ≡ unless (b && false) 11 0
+      without true = refl
+      without false = refl
+
 -- a tag is made or verified exactly when n is 1 and it has 8 to 16 bytes
 pub cmac-iff : (n t : ℕ) → (cmacRefusal n t ≡ 0) ↔ ((n ≡ 1) × (8 ≤ t) × (t ≤ 16))
 unfolding cmacRefusal cmacLengths
@@ -72,21 +90,3 @@ pub record Cmac-taken (n t : ℕ) : Type 0 where
 
 pub cmac-taken : (n t : ℕ) {r : ℕ} → r ≡ cmacRefusal n t → r ≡ 0 → Cmac-taken n t
 cmac-taken n t p e = let h = cmac-iff n t .0 (sym p ∙ e) in record { one = h .0; low = h .1; top = h .2 }
-
--- the other numbers, as the code finds them: 12 for n = 2 and 4, and then 11
-module _ (n t : ℕ) where
-  pub cmac-large : legal n ≡ true → (n ≡ 1 → ⊥) → 12 ≡ cmacRefusal n t
-  unfolding cmacRefusal cmacLengths
-  cmac-large l h = rw (l, ne-eqb n 1 h)
-
-  pub cmac-short : n ≡ 1 → t < 8 → 11 ≡ cmacRefusal n t
-  unfolding cmacRefusal cmacLengths
-  cmac-short e h = rw (legal-iff n .1 (inl e), eq-eqb n 1 e, lt-leb 8 t h)
-
-  pub cmac-long : n ≡ 1 → 16 < t → 11 ≡ cmacRefusal n t
-  unfolding cmacRefusal cmacLengths
-  cmac-long e h = rw (legal-iff n .1 (inl e), eq-eqb n 1 e, lt-leb t 16 h) (without (leb 8 t))
-    where
-      without : (b : Bool) → 11 ≡ unless (b && false) 11 0
-      without true = refl
-      without false = refl

@@ -110,10 +110,10 @@ pub fn equal(a: &[u8], b: &[u8]) -> bool
         return false;
     }
     let mut different = 0u8;
-    let mut i = 0usize;
-    while i < a.len() {
-        different = different | (a[i] ^ b[i]);
-        i += 1;
+    let mut at = 0usize;
+    while at < a.len() {
+        different = different | (a[at] ^ b[at]);
+        at += 1;
     }
     different == 0
 }

@@ -35,8 +35,8 @@ chained-requires : tie.Need-chained-requires
 chained-requires c κs = taken c .one
 
 -- src/lib.rt:121:29
-array-share-prefix-last : tie.Need-array-share-prefix-last
-array-share-prefix-last c = inside c
+array-share-prefix-made : tie.Need-array-share-prefix-made
+array-share-prefix-made c = inside c
 
 -- src/lib.rt:121:29
 slice-aggregate-equal : tie.Need-slice-aggregate-equal
@@ -59,7 +59,7 @@ verify-spec =
     cmac-refusal-requires
     returns
     chained-requires
-    array-share-prefix-last
+    array-share-prefix-made
     slice-aggregate-equal
     equal-requires
     returns-2)

@@ -1,4 +1,4 @@
--- What differed before i is gathered, and what is left decides the rest.
+-- What differed before `at` is gathered, and what is left decides the rest.
 -- Assumes nothing.
 use mathlib.Core.Path.{_≡_, refl, sym, _∙_}
 use Prim.Native.Nat.{_-_, _^_, _≤_, _<_}
@@ -11,10 +11,10 @@ use Rattle.strings.proofs.equal.Statement.{statement}
 use Rattle.strings.proofs.equal.Tie as tie
 
 abbrev Inv-loop : tie.InvT-loop
-Inv-loop a b different₀ i₀ different i = (i ≤ length a) × (same a b ≡ compared a b i different)
+Inv-loop a b different₀ at₀ different at = (at ≤ length a) × (same a b ≡ compared a b at different)
 
 abbrev μ-loop : tie.MeasureT-loop
-μ-loop a b different₀ i₀ different i = length a - i
+μ-loop a b different₀ at₀ different at = length a - at
 
 returns : tie.Need-returns Inv-loop μ-loop
 returns c = same-not _ _ (c .if1 .taken)
@@ -28,8 +28,8 @@ shared-slice-read-different c = search needs
 shared-slice-read-different-2 : tie.Need-shared-slice-read-different-2 Inv-loop μ-loop
 shared-slice-read-different-2 c = search needs
 
-add-i : tie.Need-add-i Inv-loop μ-loop
-add-i c = search needs
+add-at : tie.Need-add-at Inv-loop μ-loop
+add-at c = search needs
 
 loop-less : tie.Need-loop-less Inv-loop μ-loop
 loop-less c = search needs
@@ -38,13 +38,13 @@ loop-again : tie.Need-loop-again Inv-loop μ-loop
 loop-again c =
     let p = c .before .before .before in
     let a = p .before .before .args in
-    (search needs, p .loop .inv .1 ∙ compared-next (a .a .now) (a .b .now) (p .loop .i) (p .loop .different) (omega arith) (omega arith))
+    (search needs, p .loop .inv .1 ∙ compared-next (a .a .now) (a .b .now) (p .loop .at) (p .loop .different) (omega arith) (omega arith))
 
 returns-2 : tie.Need-returns-2 Inv-loop μ-loop
 returns-2 c =
     let p = c .before in
     let a = p .before .before .args in
-    sym (p .loop .inv .1 ∙ compared-all (a .a .now) (a .b .now) (p .loop .i) (p .loop .different) (omega arith) (omega arith))
+    sym (p .loop .inv .1 ∙ compared-all (a .a .now) (a .b .now) (p .loop .at) (p .loop .different) (omega arith) (omega arith))
 
 pub equal-spec : {M : Type 1} → statement M
 equal-spec =
@@ -56,7 +56,7 @@ equal-spec =
     loop-holds
     shared-slice-read-different
     shared-slice-read-different-2
-    add-i
+    add-at
     loop-less
     loop-again
     returns-2)
