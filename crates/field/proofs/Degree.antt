@@ -1,10 +1,9 @@
 -- A multiple of a polynomial of degree d, if it isn't 0, has degree d or more. So a remainder by such a polynomial, of degree below d, is the
 -- only one. The polynomial is 2^d + low, and n bits of it are multiplied by.
 -- Assumes nothing.
-use mathlib.Core.Path.{_≡_, refl, sym, ap, ap₂, _∙_, subst}
-use mathlib.Core.Logic.{_⊎_, inl, inr, ⊎-elim}
+use mathlib.Core.Path.{_≡_, refl, sym, ap, _∙_, subst}
 use Prim.Native.Nat.{ℕ, zero, suc, _+_, _*_, _/_, _%_, _^_, _≤_, _<_}
-use native.Mathlib.Nat.{mod-lt, mul-one, one-mul, zero-mul, zero-add, mul-assoc, add-mul, add-comm, pow-suc, two-pow-succ}
+use native.Mathlib.Nat.{mod-lt, mul-one, one-mul, zero-mul, mul-assoc, add-mul, add-comm, pow-suc, two-pow-succ}
 use native.Mathlib.Numerals.{add-one}
 use native.Mathlib.Omega.{arith}
 use lib.Arith.{lt-one}

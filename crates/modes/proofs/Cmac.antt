@@ -4,16 +4,16 @@
 use mathlib.Core.Path.{_≡_, refl, sym, ap, ap₂, _∙_, fun-ext}
 use mathlib.Core.Bool.{Bool, true, false}
 use mathlib.Core.Logic.{_↔_}
-use mathlib.Core.List.{List, [], _∷_, _++_}
-use Prim.Native.Nat.{ℕ, zero, suc, _+_, _-_, _*_, _/_, _%_, _^_, _≤_, _<_}
-use native.Mathlib.Nat.{zero-add, suc-add, zero-mul}
+use mathlib.Core.List.{List, _∷_, _++_}
+use Prim.Native.Nat.{ℕ, zero, suc, _+_, _-_, _*_, _/_, _^_, _≤_, _<_}
+use native.Mathlib.Nat.{zero-add, suc-add}
 use native.Mathlib.Omega.{arith}
 use borrow.Author.Tests.{eq-eqb, ne-eqb, eqb-true, eqb-false}
 use lib.Dec.{eqb, ltb}
 use lib.ListN.{length, take, drop, set, replicate, length-append, length-drop, length-replicate, replicate-append-replicate}
-use lib.Seq.{set-at, take-all, take-at, drop-at, take-append-le, drop-append-le, length-take-le, take-length}
+use lib.Seq.{set-at, take-all, drop-at, take-append-le, drop-append-le, length-take-le}
 use Rattle.field.specs.Lists.{when}
-use Rattle.labyrinth.proofs.Blocks.{Bytes, take-bytes, append-bytes}
+use Rattle.labyrinth.proofs.Blocks.{Bytes}
 use Rattle.modes.specs.Strings.{xorBytes, number, string, same}
 use Rattle.modes.specs.Ctr.{blocks}
 use Rattle.modes.specs.Cbc.{sealBlocks, before}

@@ -1,6 +1,6 @@
 -- What the change requests ask for holds.
 -- Assumes nothing.
-use mathlib.Core.Path.{_≡_, refl, sym, ap, _∙_}
+use mathlib.Core.Path.{_≡_, refl, sym, _∙_}
 use mathlib.Core.Bool.{Bool, true, false, false≢true}
 use mathlib.Core.Logic.{_⊎_, inl, inr, ⊎-elim, _↔_}
 use mathlib.Core.List.{List}
@@ -11,9 +11,9 @@ use lib.Dec.{leb}
 use lib.ListN.{length, replicate}
 use Rattle.labyrinth.specs.Cipher.{article}
 use Rattle.labyrinth.specs.Keys.{E}
-use Rattle.labyrinth.specs.Refusals.{legal, unless}
+use Rattle.labyrinth.specs.Refusals.{legal}
 use Rattle.labyrinth.proofs.Refusals.{legal-iff}
-use Rattle.modes.specs.Cmac.{K1, K2, tag, valid}
+use Rattle.modes.specs.Cmac.{K1, K2, tag}
 use Rattle.modes.specs.Refusals.{cmacRefusal}
 use Rattle.modes.proofs.Maps.{keeps-one}
 use Rattle.modes.proofs.Cmac.{length-doubled, bytes-doubled, valid-iff}

@@ -1,7 +1,7 @@
 -- The change requests of document 02 that have landed, sentence by sentence, as Demands has the user's demands.
 -- Assumes nothing.
 use mathlib.Core.Path.{_≡_}
-use mathlib.Core.Bool.{true, false}
+use mathlib.Core.Bool.{true}
 use mathlib.Core.Logic.{_⊎_, _↔_}
 use mathlib.Core.List.{List}
 use Prim.Native.Nat.{ℕ, _≤_, _<_}
@@ -17,7 +17,7 @@ use Rattle.modes.specs.Gf128.{Remainder}
 use Rattle.modes.specs.Refusals.{cmacRefusal}
 use Rattle.cmac.specs.declared.Verified.{Verified}
 use Rattle.cmac.specs.Verification.{verification}
-use Rattle.promise.specs.Demands.{Legal, Words}
+use Rattle.promise.specs.Demands.{Legal}
 
 -- ---- Job 1: a tag on each page
 

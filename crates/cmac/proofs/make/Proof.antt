@@ -1,6 +1,6 @@
 -- A refusal leaves the destination; else the first bytes of the last block are copied to it.
 -- Assumes nothing.
-use mathlib.Core.Path.{_≡_, sym, _∙_}
+use mathlib.Core.Path.{sym, _∙_}
 use lib.ListN.{length}
 use Rattle.labyrinth.proofs.Operations.{refused-keeps}
 use Rattle.modes.proofs.Maps.{keeps-one}

@@ -1,7 +1,6 @@
 -- What was made is verified, by the same refusals.
 -- Assumes nothing.
 use mathlib.Core.Path.{refl, ap, _∙_}
-use mathlib.Core.List.{List}
 use Prim.Native.Nat.{ℕ}
 use lib.ListN.{length}
 use Rattle.labyrinth.specs.Cipher.{article}

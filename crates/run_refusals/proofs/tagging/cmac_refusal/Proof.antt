@@ -1,7 +1,6 @@
 -- The checks in their order.
 -- Assumes nothing.
 use mathlib.Core.Path.{sym, _∙_}
-use native.Mathlib.Omega.{arith}
 use borrow.Author.Tests.{not-true, not-false}
 use Rattle.modes.specs.Refusals.{cmacRefusal}
 use Rattle.modes.proofs.Refusals.{cmac-iff, cmac-large, cmac-short, cmac-long}
