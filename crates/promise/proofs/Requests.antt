@@ -1,6 +1,6 @@
 -- What the change requests ask for holds.
 -- Assumes nothing.
-use mathlib.Core.Path.{_≡_, refl, sym, _∙_}
+use mathlib.Core.Path.{_≡_, refl, sym, ap, _∙_, fun-ext}
 use mathlib.Core.Bool.{Bool, true, false, false≢true}
 use mathlib.Core.Logic.{_⊎_, inl, inr, ⊎-elim, _↔_}
 use mathlib.Core.List.{List}
@@ -15,13 +15,15 @@ use Rattle.labyrinth.specs.Refusals.{legal}
 use Rattle.labyrinth.proofs.Refusals.{legal-iff}
 use Rattle.modes.specs.Cmac.{K1, K2, tag}
 use Rattle.modes.specs.Refusals.{cmacRefusal}
+use Rattle.labyrinth.proofs.Agree.{E-used}
 use Rattle.modes.proofs.Maps.{keeps-one}
 use Rattle.modes.proofs.Cmac.{length-doubled, bytes-doubled, valid-iff}
 use Rattle.modes.proofs.Doubling.{doubled-remainder, only-remainder}
 use Rattle.modes.proofs.Refusals.{cmac-iff, cmac-taken, cmac-large, cmac-short, cmac-long}
+use Rattle.modes.proofs.Used.{tag-used}
 use Rattle.cmac.specs.Verification.{verification}
 use Rattle.promise.specs.Demands.{Legal}
-use Rattle.promise.specs.Requests.{MasksDoubled, OneRemainder, YesExactly, TagNumbers}
+use Rattle.promise.specs.Requests.{MasksDoubled, OneRemainder, YesExactly, TagsOfUsedWords, TagNumbers}
 
 -- ---- Job 1
 
@@ -49,6 +51,12 @@ yes-exactly n ws message given = go (cmacRefusal n (length given)) refl
         let v = valid-iff e (keeps-one n ws (t .one)) message given (t .top) in
         (λ y. (refl, v .0 y), λ h. v .1 (h .1))
     go (suc r) p = (λ y. absurd (false≢true y), λ h. let f : ⊥ = omega (arith, h .0) in absurd f)
+
+pub tags-of-used-words : TagsOfUsedWords
+tags-of-used-words n ws vs h message given size number = (
+  tag-used n ws vs h size message,
+  ap (λ (e : List ℕ → List ℕ). verification e message given number) (fun-ext (E-used article n ws vs h)),
+)
 
 pub tag-numbers : TagNumbers
 unfolding cmacRefusal

@@ -4,8 +4,8 @@ use mathlib.Core.Path.{_≡_}
 use mathlib.Core.Bool.{true}
 use mathlib.Core.Logic.{_⊎_, _↔_}
 use mathlib.Core.List.{List}
-use Prim.Native.Nat.{ℕ, _≤_, _<_}
-use lib.ListN.{length, replicate}
+use Prim.Native.Nat.{ℕ, _*_, _≤_, _<_}
+use lib.ListN.{length, getD, replicate}
 use Rattle.field.specs.Field.{polyMul}
 use Rattle.labyrinth.specs.declared.WorkingKey.{WorkingKey}
 use Rattle.labyrinth.specs.Cipher.{article}
@@ -52,9 +52,16 @@ YesExactly =
 abbrev pub GetsYes : ℕ → Verified → Type 0
 GetsYes refusal answer = (answer .number ≡ refusal) × ((answer .yes ≡ true) ↔ (refusal ≡ 0))
 
+-- document 01: "Later answers depend on the used words only." Two working keys with the same used words, 8n of them:
+abbrev pub TagsOfUsedWords : Type 0
+TagsOfUsedWords =
+    (n : ℕ) (ws vs : List ℕ) → ((i : ℕ) → i < 8 * n → getD ws i 0 ≡ getD vs i 0) → (message given : List ℕ) (size answer : ℕ)
+    → (tag (E article n ws) size message ≡ tag (E article n vs) size message)
+    × (verification (E article n ws) message given answer ≡ verification (E article n vs) message given answer)
+
 -- "It refuses a working key of legal n other than 1 with 12, after 1; and then a tag length outside 8 to 16 with 11, and nothing else."
 abbrev pub TagNumbers : Type 0
 TagNumbers =
-    (n length : ℕ) → let number = cmacRefusal n length in
-    ((number ≡ 1) × (Legal n → ⊥)) ⊎ (((number ≡ 12) × ((n ≡ 2) ⊎ (n ≡ 4)))
-    ⊎ (((number ≡ 11) × (n ≡ 1) × ((length < 8) ⊎ (16 < length))) ⊎ ((number ≡ 0) × (n ≡ 1) × (8 ≤ length) × (length ≤ 16))))
+    (n size : ℕ) → let answer = cmacRefusal n size in
+    ((answer ≡ 1) × (Legal n → ⊥)) ⊎ (((answer ≡ 12) × ((n ≡ 2) ⊎ (n ≡ 4)))
+    ⊎ (((answer ≡ 11) × (n ≡ 1) × ((size < 8) ⊎ (16 < size))) ⊎ ((answer ≡ 0) × (n ≡ 1) × (8 ≤ size) × (size ≤ 16))))
