@@ -10,8 +10,8 @@ use Rattle.field.specs.Lists.{when}
 use Rattle.modes.specs.Strings.{xorBytes, number, string, same}
 use Rattle.modes.specs.Ctr.{blocks}
 
--- 6.1, steps 2 and 3: X << 1, the highest bit dropped and a 0 put behind; and that XOR R_128, which is 0x87, if the highest bit, MSB_1(X),
--- is 1
+-- 6.1, steps 2 and 3: X << 1, the highest bit dropped and a 0 put behind; and that XOR R_128, which is 0x87 (5.3), if the highest bit,
+-- MSB_1(X), is 1
 unfoldable pub doubled : List ℕ → List ℕ
 doubled x =
     let shifted = string 16 (2 * number x) in
