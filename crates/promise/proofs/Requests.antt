@@ -23,7 +23,7 @@ use Rattle.modes.proofs.Refusals.{cmac-iff, cmac-taken, cmac-large, cmac-short,
 use Rattle.modes.proofs.Used.{tag-used}
 use Rattle.cmac.specs.Verification.{verification}
 use Rattle.promise.specs.Demands.{Legal}
-use Rattle.promise.specs.Requests.{MasksDoubled, OneRemainder, YesExactly, TagsOfUsedWords, TagNumbers}
+use Rattle.promise.specs.Requests.{MasksDoubled, OneRemainder, YesExactly, TagsOfUsedWords, TagNumber, TagNumbers}
 
 -- ---- Job 1
 
@@ -62,21 +62,16 @@ pub tag-numbers : TagNumbers
 unfolding cmacRefusal
 tag-numbers n t = legal-or-not (legal n) refl
   where
-    Numbers : Type 0
-    Numbers =
-        ((cmacRefusal n t ≡ 1) × (Legal n → ⊥)) ⊎ (((cmacRefusal n t ≡ 12) × ((n ≡ 2) ⊎ (n ≡ 4)))
-        ⊎ (((cmacRefusal n t ≡ 11) × (n ≡ 1) × ((t < 8) ⊎ (16 < t))) ⊎ ((cmacRefusal n t ≡ 0) × (n ≡ 1) × (8 ≤ t) × (t ≤ 16))))
-
-    large : legal n ≡ true → ((n ≡ 2) ⊎ (n ≡ 4)) → Numbers
+    large : legal n ≡ true → ((n ≡ 2) ⊎ (n ≡ 4)) → TagNumber n t (cmacRefusal n t)
     large l h = inr (inl (sym (cmac-large n t l (λ e. ⊎-elim (λ (p : n ≡ 2). omega arith) (λ (p : n ≡ 4). omega arith) h)), h))
 
-    one : n ≡ 1 → (low high : Bool) → leb 8 t ≡ low → leb t 16 ≡ high → Numbers
+    one : n ≡ 1 → (low high : Bool) → leb 8 t ≡ low → leb t 16 ≡ high → TagNumber n t (cmacRefusal n t)
     one e false high p q = let h = leb-false 8 t p in inr (inr (inl (sym (cmac-short n t e h), e, inl h)))
     one e true false p q = let h = leb-false t 16 q in inr (inr (inl (sym (cmac-long n t e h), e, inr h)))
     one e true true p q =
         let h : (n ≡ 1) × (8 ≤ t) × (t ≤ 16) = (e, leb-true 8 t p, leb-true t 16 q) in
         inr (inr (inr (cmac-iff n t .1 h, e, h .1, h .2)))
 
-    legal-or-not : (b : Bool) → legal n ≡ b → Numbers
+    legal-or-not : (b : Bool) → legal n ≡ b → TagNumber n t (cmacRefusal n t)
     legal-or-not false p = inl (rw p, λ l. false≢true (sym p ∙ legal-iff n .1 l))
     legal-or-not true p = ⊎-elim (λ (e : n ≡ 1). one e (leb 8 t) (leb t 16) refl refl) (λ (h : (n ≡ 2) ⊎ (n ≡ 4)). large p h) (legal-iff n .0 p)

@@ -60,8 +60,10 @@ TagsOfUsedWords =
     × (verification (E article n ws) message given answer ≡ verification (E article n vs) message given answer)
 
 -- "It refuses a working key of legal n other than 1 with 12, after 1; and then a tag length outside 8 to 16 with 11, and nothing else."
-abbrev pub TagNumbers : Type 0
-TagNumbers =
-    (n size : ℕ) → let answer = cmacRefusal n size in
+abbrev pub TagNumber : ℕ → ℕ → ℕ → Type 0
+TagNumber n size answer =
     ((answer ≡ 1) × (Legal n → ⊥)) ⊎ (((answer ≡ 12) × ((n ≡ 2) ⊎ (n ≡ 4)))
     ⊎ (((answer ≡ 11) × (n ≡ 1) × ((size < 8) ⊎ (16 < size))) ⊎ ((answer ≡ 0) × (n ≡ 1) × (8 ≤ size) × (size ≤ 16))))
+
+abbrev pub TagNumbers : Type 0
+TagNumbers = (n size : ℕ) → TagNumber n size (cmacRefusal n size)

@@ -11,7 +11,7 @@ use Rattle.strings.proofs.equal.Statement.{statement}
 use Rattle.strings.proofs.equal.Tie as tie
 
 abbrev Inv-loop : tie.InvT-loop
-Inv-loop a b different₀ at₀ different at = (at ≤ length a) × (same a b ≡ compared a b at different)
+Inv-loop a b different₀ at₀ different at = (same a b ≡ compared a b at different) × (at ≤ length a)
 
 abbrev μ-loop : tie.MeasureT-loop
 μ-loop a b different₀ at₀ different at = length a - at
@@ -20,7 +20,7 @@ returns : tie.Need-returns Inv-loop μ-loop
 returns c = same-not _ _ (c .if1 .taken)
 
 loop-holds : tie.Need-loop-holds Inv-loop μ-loop
-loop-holds c = (search needs, refl)
+loop-holds c = (refl, search needs)
 
 shared-slice-read-different : tie.Need-shared-slice-read-different Inv-loop μ-loop
 shared-slice-read-different c = search needs
@@ -38,13 +38,13 @@ loop-again : tie.Need-loop-again Inv-loop μ-loop
 loop-again c =
     let p = c .before .before .before in
     let a = p .before .before .args in
-    (search needs, p .loop .inv .1 ∙ compared-next (a .a .now) (a .b .now) (p .loop .at) (p .loop .different) (omega arith) (omega arith))
+    (p .loop .inv .0 ∙ compared-next (a .a .now) (a .b .now) (p .loop .at) (p .loop .different) (omega arith) (omega arith), search needs)
 
 returns-2 : tie.Need-returns-2 Inv-loop μ-loop
 returns-2 c =
     let p = c .before in
     let a = p .before .before .args in
-    sym (p .loop .inv .1 ∙ compared-all (a .a .now) (a .b .now) (p .loop .at) (p .loop .different) (omega arith) (omega arith))
+    sym (p .loop .inv .0 ∙ compared-all (a .a .now) (a .b .now) (p .loop .at) (p .loop .different) (omega arith) (omega arith))
 
 pub equal-spec : {M : Type 1} → statement M
 equal-spec =
