@@ -3,7 +3,7 @@
 use mathlib.Core.Path.{_≡_, refl}
 use mathlib.Core.Bool.{Bool, true, false, true≢false}
 use mathlib.Core.List.{List}
-use Prim.Native.Nat.{ℕ, _*_, _≤_, _<_}
+use Prim.Native.Nat.{ℕ, _+_, _*_, _≤_, _<_}
 use native.Mathlib.Omega.{arith}
 use borrow.Author.Tests.{eqb-true, eqb-false}
 use lib.Dec.{eqb}
@@ -18,10 +18,15 @@ use Rattle.tape.specs.Steps.{Answer, step}
 use Rattle.tape.proofs.Cases.{map-size, step-room}
 use Rattle.tape.proofs.Ways.{Known, sets, maps, mixes, Maps, enciphers, deciphers, Way, over, empty, closed, unknown, cut, refused, set, mapped, mixed, way-of}
 
--- it takes no more than there is, writes no more than it takes, and no more than 65 bytes
+-- one, where it is so
+abbrev pub one-if : Bool → ℕ
+one-if true = 1
+one-if false = 0
+
+-- it takes no more than there is, writes no more than it takes, one byte more if it ends, and no more than 65 bytes
 pub record Bounded (rest : List ℕ) (a : Answer) : Type 0 where
   pub within : a .taken ≤ length rest
-  pub shorter : length (a .written) ≤ a .taken
+  pub shorter : length (a .written) ≤ a .taken + one-if (a .next .ended)
   pub fits : length (a .written) ≤ 65
 
 map-length : {c : ℕ} {m : ℕ → List ℕ → List ℕ → List ℕ} → Maps c m → (n : ℕ) (ws b : List ℕ) → length (m n ws b) ≡ 16 * n
@@ -39,8 +44,8 @@ module _ {t : Tape} {rest : List ℕ} where
   way-bounded (empty _ _) = record { within = omega arith; shorter = omega arith; fits = omega arith }
   way-bounded (closed g _) = record { within = g .some; shorter = omega arith; fits = omega arith }
   way-bounded (unknown g _) = record { within = g .some; shorter = omega arith; fits = omega arith }
-  way-bounded (cut g _ _) = record { within = omega arith; shorter = g .some; fits = omega arith }
-  way-bounded (refused _ _ k h) = record { within = h; shorter = known-bounds k .0; fits = omega arith }
+  way-bounded (cut g _ _) = record { within = omega arith; shorter = omega (arith, g .some); fits = omega arith }
+  way-bounded (refused _ _ k h) = record { within = h; shorter = omega (arith, known-bounds k .0); fits = omega arith }
   way-bounded (set _ _ h _) = record { within = h; shorter = omega arith; fits = omega arith }
   way-bounded (mapped g e h z) =
       let s = map-size t (take 64 (drop 1 rest)) refl z in

@@ -13,7 +13,7 @@ use Rattle.labyrinth.specs.Refusals.{unless, legal}
 use Rattle.labyrinth.proofs.Agree.{SameUsed, E-used, U-used}
 use Rattle.operands.specs.Operands.{zeros}
 use Rattle.tape.specs.declared.Tape.{Tape}
-use Rattle.tape.specs.Steps.{Answer, ended, answers, ends, whole, judged, keyRefusal, setKey, mapRefusal, mapBlock, mixWord, command, step}
+use Rattle.tape.specs.Steps.{Answer, ended, answers, refuses, ends, whole, judged, keyRefusal, setKey, mapRefusal, mapBlock, mixWord, command, step}
 
 -- two states with the same n, the same first 8n words and the same marks
 pub record Alike (t u : Tape) : Type 0 where
@@ -46,8 +46,11 @@ module _ (t u : Tape) (h : Alike t u) where
   ends-same : (taken : ℕ) → Same (ends t taken) (ends u taken)
   ends-same taken = record { number = refl; taken = refl; written = refl; next = ended-alike }
 
+  refuses-same : (number taken : ℕ) → Same (refuses (ended t) number taken) (refuses (ended u) number taken)
+  refuses-same number taken = record { number = refl; taken = refl; written = refl; next = ended-alike }
+
   whole-same : (w : ℕ) (rest : List ℕ) {x y : Answer} → Same x y → Same (whole w t rest x) (whole w u rest y)
-  whole-same w rest s = when-same (ltb (length rest) w) refl (record { number = refl; taken = refl; written = refl; next = ended-alike }) s
+  whole-same w rest s = when-same (ltb (length rest) w) refl (refuses-same 8 (length rest)) s
 
   judged-same : (r w : ℕ) {s : ℕ} {x y : Answer} → r ≡ s → Same x y → Same (judged r w t x) (judged s w u y)
   judged-same r w {s} {x} {y} e p = subst (λ (k : ℕ). Same (judged r w t x) (judged k w u y)) e (either r)
@@ -88,7 +91,7 @@ module _ (t u : Tape) (h : Alike t u) where
       (when-same (eqb c 1) refl (setKey-same rest)
       (when-same (eqb c 3) refl (mapBlock-same (E article) (E-used article) rest)
       (when-same (eqb c 4) refl (mapBlock-same (U article) (U-used article) rest)
-      (when-same (eqb c 5) refl (mixWord-same rest) (record { number = refl; taken = refl; written = refl; next = ended-alike })))))
+      (when-same (eqb c 5) refl (mixWord-same rest) (refuses-same 7 1)))))
 
   -- states that are alike give the same answers
   pub step-used : (rest : List ℕ) (room : ℕ) → Same (step t rest room) (step u rest room)
@@ -96,4 +99,4 @@ module _ (t u : Tape) (h : Alike t u) where
   step-used rest room =
       when-same (not (eqb room 65)) refl (record { number = refl; taken = refl; written = refl; next = h })
       (when-same (t .ended) (h .ended) (ends-same 0)
-      (when-same (eqb (length rest) 0) refl (ends-same 0) (command-same (getD rest 0 0) rest)))
+      (when-same (eqb (length rest) 0) refl (refuses-same 8 0) (command-same (getD rest 0 0) rest)))

@@ -1,5 +1,5 @@
--- A step of the command tape (document 01, 'The command tape' and its step refusals), rule by rule in the paper's order. What stands in
--- quotes is the paper's.
+-- A step of the command tape (document 01, 'The command tape' and its step refusals), rule by rule in the paper's order; the end of a tape
+-- is document 02's, Job 2. What stands in quotes is the papers'.
 -- Assumes nothing.
 use Prim.Native.Nat.{ℕ, zero, suc, _*_}
 use mathlib.Core.Bool.{Bool, true, false, not}
@@ -105,9 +105,10 @@ command c t rest =
 
 -- ---- a step
 
--- the end rule, which stands here alone: a rest of length 0 in a state that has not ended 'gives 0, takes and writes none, and is ended'
+-- the end rule, which stands here alone (document 02, Job 2): 'A rest of length 0 in a state that has not ended answers 8: it writes that
+-- byte, takes none and ends.'
 abbrev pub atEnd : Tape → Answer
-atEnd t = ends t 0
+atEnd t = refuses (ended t) 8 0
 
 -- 'First, in an ended state too, 5 if the answer buffer isn't 65 bytes: none taken, none written, same state.'
 abbrev pub misfits : Tape → Answer

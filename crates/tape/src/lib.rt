@@ -60,13 +60,6 @@ fn ends(t: Tape, taken: usize) -> Stepped
     }
 }
 
-// The end rule: a rest of length 0.
-fn at_end(t: Tape) -> Stepped
-    ensures { λ r. ⌜ r ≡ returned (atEnd t) ⌝ }
-{
-    ends(t, 0)
-}
-
 // An answer of its number alone.
 fn say_number(next: Tape, number: u8, taken: usize, answer: &mut [u8]) -> Stepped
     requires { ⌜ 0 < length (now answer) ⌝ }
@@ -80,6 +73,15 @@ fn say_number(next: Tape, number: u8, taken: usize, answer: &mut [u8]) -> Steppe
         written: 1,
         next: next,
     }
+}
+
+// The end rule: a rest of length 0, and no 00 came.
+fn at_end(t: Tape, answer: &mut [u8]) -> Stepped
+    requires { ⌜ 0 < length (now answer) ⌝ }
+    ensures returned { λ r. ⌜ r ≡ returned (atEnd t) ⌝ }
+    ensures bytes { λ _. ⌜ now (answer .exit) ≡ over (atEnd t .written) (now (answer .entry)) ⌝ }
+{
+    say_number(ended(t), 8, 0, answer)
 }
 
 // An answer of number 0 and more bytes.
@@ -257,7 +259,7 @@ pub fn step(t: Tape, rest: &[u8], answer: &mut [u8]) -> Stepped
         return ends(t, 0);
     }
     if rest.len() == 0 {
-        return at_end(t);
+        return at_end(t, answer);
     }
     obey(t, rest, answer)
 }

@@ -22,16 +22,19 @@ returns-2 c =
 at-end-requires : tie.Need-at-end-requires
 at-end-requires c κs = search needs
 
+same-length : tie.Need-same-length
+same-length c = search needs
+
 returns-3 : tie.Need-returns-3
 returns-3 c =
-    let a = c .before .before .before .before .before .before .args in
-    gives (a .answer .now) (step-empty (a .t) (a .rest .now) _ (c .before .before .before .if1 .left) (c .before .before .if2 .left) (c .before .if3 .taken)) (c .at-end .ensures, refl)
+    let a = c .before .before .before .before .before .before .before .before .before .args in
+    gives (a .answer .now) (step-empty (a .t) (a .rest .now) _ (c .before .before .before .before .before .before .if1 .left) (c .before .before .before .before .before .if2 .left) (c .before .before .before .before .if3 .taken)) (c .before .before .at-end .ensures)
 
 obey-requires : tie.Need-obey-requires
 obey-requires c κs = search needs
 
-same-length : tie.Need-same-length
-same-length c = search needs
+same-length-2 : tie.Need-same-length-2
+same-length-2 c = search needs
 
 returns-4 : tie.Need-returns-4
 returns-4 c =
@@ -46,7 +49,8 @@ step-spec =
     ends-requires
     returns-2
     at-end-requires
+    same-length
     returns-3
     obey-requires
-    same-length
+    same-length-2
     returns-4)
