@@ -23,6 +23,10 @@ abbrev pub one-if : Bool → ℕ
 one-if true = 1
 one-if false = 0
 
+pub one-if-top : (b : Bool) → one-if b ≤ 1
+one-if-top true = omega arith
+one-if-top false = omega arith
+
 -- it takes no more than there is, writes no more than it takes, one byte more if it ends, and no more than 65 bytes
 pub record Bounded (rest : List ℕ) (a : Answer) : Type 0 where
   pub within : a .taken ≤ length rest

@@ -3,3 +3,4 @@ pub mod Ways
 pub mod Bounds
 pub mod Accepted
 pub mod Used
+pub mod Front

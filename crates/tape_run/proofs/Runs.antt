@@ -4,7 +4,7 @@ use mathlib.Core.Path.{_≡_, refl, sym, ap, ap₂, _∙_}
 use mathlib.Core.Bool.{Bool, true, false, true≢false}
 use mathlib.Core.List.{List, [], _∷_, _++_}
 use mathlib.Core.Logic.{⊎-elim, _↔_}
-use Prim.Native.Nat.{ℕ, zero, suc, _≤_, _<_}
+use Prim.Native.Nat.{ℕ, zero, suc, _+_, _≤_, _<_}
 use native.Mathlib.Omega.{arith}
 use borrow.Author.Tests.{eqb-true, eqb-false, eq-eqb, ne-eqb, ltb-true, ltb-false, lt-ltb, le-ltb}
 use lib.Dec.{eqb, ltb}
@@ -12,12 +12,12 @@ use lib.ListN.{length, drop, length-append, length-drop}
 use Rattle.field.specs.Lists.{when}
 use Rattle.tape.specs.declared.Tape.{Tape}
 use Rattle.tape.specs.Steps.{Answer, fresh, step, over}
-use Rattle.tape.proofs.Bounds.{step-bounded, step-moves}
+use Rattle.tape.proofs.Bounds.{one-if, step-bounded, step-moves}
 use Rattle.tape.proofs.Ways.{when-all}
 use Rattle.tape.proofs.Accepted.{Ending, ends-iff}
 use Rattle.tape.proofs.Used.{Alike, Same, step-used}
 use Rattle.tape_run.specs.declared.Answered.{Answered}
-use Rattle.tape_run.specs.Runs.{steps, tapeSteps, joined, tapeAnswers, Ran, run, returned}
+use Rattle.tape_run.specs.Runs.{steps, tapeSteps, joined, tapeAnswers, lastRest, Ran, run, returned}
 
 -- ---- the walk
 
@@ -63,12 +63,6 @@ unfoldable pub lastState : Tape → List Answer → Tape
 lastState t [] = t
 lastState t (a ∷ xs) = lastState (a .next) xs
 
--- the rest at which the last step begins
-unfoldable pub lastRest : List ℕ → List Answer → List ℕ
-lastRest rest [] = rest
-lastRest rest (a ∷ []) = rest
-lastRest rest (a ∷ b ∷ xs) = lastRest (drop (a .taken) rest) (b ∷ xs)
-
 walked-ended : {t : Tape} {rest : List ℕ} {xs : List Answer} → Walked t rest xs → lastState t xs .ended ≡ true
 unfolding lastState
 walked-ended (last _ e) = e
@@ -88,24 +82,24 @@ walked-ending (more {t} {rest} o e w) = rw (lastRest-more (step t rest 65) rest 
 pub tape-ended : (tape : List ℕ) → lastState fresh (tapeSteps tape) .ended ≡ true
 tape-ended tape = walked-ended (tape-walked tape)
 
--- the last step begins where no command is left: at an empty rest, a 00, an unknown command or one that is cut short
+-- the last step begins where no command is left: at a 00, an unknown command, one that is cut short or an empty rest
 pub tape-ending : (tape : List ℕ) → Ending (lastRest tape (tapeSteps tape))
 tape-ending tape = walked-ending (tape-walked tape)
 
 -- ---- the answers fit
 
-walked-fits : {t : Tape} {rest : List ℕ} {xs : List Answer} → Walked t rest xs → length (joined xs) ≤ length rest
+walked-fits : {t : Tape} {rest : List ℕ} {xs : List Answer} → Walked t rest xs → length (joined xs) ≤ length rest + 1
 unfolding joined
-walked-fits (last {t} {rest} _ _) =
+walked-fits (last {t} {rest} _ e) =
     let b = step-bounded t rest 65 in
-    simp length-append (omega arith)
-walked-fits (more {t} {rest} {xs} _ _ w) =
+    simp length-append (omega (arith, ap one-if e))
+walked-fits (more {t} {rest} {xs} _ e w) =
     let b = step-bounded t rest 65 in
     let r = walked-fits w in
-    simp length-append (omega (arith, length-drop (step t rest 65 .taken) rest))
+    simp length-append (omega (arith, length-drop (step t rest 65 .taken) rest, ap one-if e))
 
--- a tape's answers are no longer than the tape
-pub tape-fits : (tape : List ℕ) → length (tapeAnswers tape) ≤ length tape
+-- a tape's answers are at most one byte longer than the tape
+pub tape-fits : (tape : List ℕ) → length (tapeAnswers tape) ≤ length tape + 1
 unfolding tapeAnswers
 tape-fits tape = walked-fits (tape-walked tape)
 

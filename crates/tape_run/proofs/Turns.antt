@@ -12,7 +12,7 @@ use Rattle.tape.specs.declared.Tape.{Tape}
 use Rattle.tape.specs.declared.Stepped.{Stepped}
 use Rattle.tape.specs.Steps.{Answer, fresh, step, returned, over}
 use Rattle.tape.proofs.Cases.{from-on}
-use Rattle.tape.proofs.Bounds.{step-bounded, step-moves}
+use Rattle.tape.proofs.Bounds.{one-if, one-if-top, step-bounded, step-moves}
 use Rattle.tape_run.specs.Runs.{steps, tapeSteps, joined, tapeAnswers}
 
 -- a part that goes to the end is lent, and comes back as ys
@@ -70,7 +70,7 @@ pub record Turning (tape before : List ℕ) (t : Tape) (present : List ℕ) (at 
   pub done : List ℕ
   pub fuel : ℕ
   pub in-tape : at ≤ length tape
-  pub behind : put ≤ at
+  pub behind : put ≤ at + one-if (t .ended)
   pub so-far : put ≡ length done
   pub written : present ≡ over done before
   pub enough : t .ended ≡ false → length tape - at < fuel
@@ -113,7 +113,7 @@ module _ {tape before : List ℕ} {t : Tape} {present : List ℕ} {at put : ℕ}
         done = w .done ++ a .written;
         fuel = w .fuel - 1;
         in-tape = omega arith;
-        behind = omega arith;
+        behind = omega (arith, ap one-if e);
         so-far = ap (λ (k : ℕ). k + length (a .written)) r ∙ sym (length-append (w .done) (a .written));
         written = ap (λ (x : List ℕ). take put x ++ over (a .written) (drop put x)) (w .written) ∙ over-more (w .done) (a .written) before put r;
         enough = λ z. let m = step-moves t (drop at tape) z in omega arith;
@@ -129,14 +129,14 @@ module _ {tape before : List ℕ} {t : Tape} {present : List ℕ} {at put : ℕ}
       subst (λ (x : Stepped). Turning tape before (x .next) next (at + x .taken) (put + x .written)) (sym p)
       (subst (λ (x : List ℕ). Turning tape before (step t (drop at tape) 65 .next) x (at + step t (drop at tape) 65 .taken) (put + length (step t (drop at tape) 65 .written))) (sym q) (turn-on e))
 
-  pub turn-length : length tape ≤ length before → length present ≡ length before
+  pub turn-length : length tape < length before → length present ≡ length before
   turn-length h =
       let p = w .in-tape in
       let q = w .behind in
       let r = w .so-far in
-      ap length (w .written) ∙ over-length (w .done) before (omega arith)
+      ap length (w .written) ∙ over-length (w .done) before (omega (arith, one-if-top (t .ended)))
 
--- what is left of the tape and of the answers, as the loop lends them: the answers are no shorter
+-- what is left of the tape and of the answers, as the loop lends them
 pub lent : (tape : List ℕ) (present : List ℕ) (t : Tape) (at put : ℕ) {s : Stepped} {ys : List ℕ}
     → s ≡ returned (step t (take (length tape - at) (drop at tape)) 65)
     → ys ≡ over (step t (take (length tape - at) (drop at tape)) 65 .written) (take (length present - put) (drop put present))
@@ -148,19 +148,14 @@ lent tape present t at put {s} {ys} e f = (
       ∙ ap (λ (x : List ℕ). take put present ++ x) (f ∙ ap₂ (λ (x y : List ℕ). over (step t x 65 .written) y) (from-on tape at) (from-on present put)),
 )
 
--- one turn more, while it goes on
-abbrev pub more : Bool → ℕ
-more true = 1
-more false = 0
-
--- what is left to do is less
+-- what is left to do is less: the bytes left, and one turn more while it goes on
 pub turns-less : (tape : List ℕ) (t : Tape) (at : ℕ) {s : Stepped} → at ≤ length tape → s ≡ returned (step t (drop at tape) 65)
-    → length tape - (at + s .taken) + more (not (s .next .ended)) < length tape - at + 1
+    → length tape - (at + s .taken) + one-if (not (s .next .ended)) < length tape - at + 1
 turns-less tape t at {s} h e =
-    subst (λ (x : Stepped). length tape - (at + x .taken) + more (not (x .next .ended)) < length tape - at + 1) (sym e) (either (step t (drop at tape) 65 .next .ended) refl)
+    subst (λ (x : Stepped). length tape - (at + x .taken) + one-if (not (x .next .ended)) < length tape - at + 1) (sym e) (either (step t (drop at tape) 65 .next .ended) refl)
   where
     either : (b : Bool) → step t (drop at tape) 65 .next .ended ≡ b
-        → length tape - (at + step t (drop at tape) 65 .taken) + more (not b) < length tape - at + 1
+        → length tape - (at + step t (drop at tape) 65 .taken) + one-if (not b) < length tape - at + 1
     either true z = omega arith
     either false z =
         let m = step-moves t (drop at tape) z in

@@ -10,6 +10,8 @@ use Rattle.tape.specs.declared.Tape.{Tape}
 use Rattle.tape.specs.Steps.{Answer, fresh, step}
 use Rattle.tape_run.specs.declared.Answered.{Answered}
 
+-- ---- the steps
+
 -- at most k steps from a state on: each begins where the one before stopped, until one leaves an ended state
 unfoldable pub steps : ℕ → Tape → List ℕ → List Answer
 steps zero t rest = []
@@ -27,6 +29,21 @@ joined (a ∷ more) = a .written ++ joined more
 -- the answers of a whole tape
 unfoldable pub tapeAnswers : List ℕ → List ℕ
 tapeAnswers tape = joined (tapeSteps tape)
+
+-- ---- how a run ended
+
+-- the number of the last of some steps that wrote; k if none did
+unfoldable pub lastNumber : ℕ → List Answer → ℕ
+lastNumber k [] = k
+lastNumber k (a ∷ more) = lastNumber (when (eqb (length (a .written)) 0) k (a .number)) more
+
+-- the rest at which the last step begins
+unfoldable pub lastRest : List ℕ → List Answer → List ℕ
+lastRest rest [] = rest
+lastRest rest (a ∷ []) = rest
+lastRest rest (a ∷ b ∷ more) = lastRest (drop (a .taken) rest) (b ∷ more)
+
+-- ---- a run
 
 -- what a run answers: a number and the bytes written
 pub record Ran : Type 0 where

@@ -2,7 +2,7 @@
 use tape::Stepped;
 use tape::Tape;
 ghost use mathlib.Core.Path.{_≡_};
-ghost use Prim.Native.Nat.{_≤_};
+ghost use Prim.Native.Nat.{_<_};
 ghost use lib.ListN.{length};
 ghost use Rattle.tape.specs.Steps.{over};
 ghost use Rattle.tape.specs.Steps as spec;
@@ -23,7 +23,7 @@ fn room() -> [u8; 65]
 
 // One step, its answer to the front of what is left of the answers.
 fn turn(t: Tape, rest: &[u8], answers: &mut [u8]) -> Stepped
-    requires { ⌜ length (now rest) ≤ length (now answers) ⌝ }
+    requires { ⌜ length (now rest) < length (now answers) ⌝ }
     ensures returned { λ r. ⌜ r ≡ spec.returned (spec.step t (now (rest .entry)) 65) ⌝ }
     ensures bytes { λ _. ⌜ now (answers .exit) ≡ over (spec.step t (now (rest .entry)) 65 .written) (now (answers .entry)) ⌝ }
 {
@@ -34,9 +34,9 @@ fn turn(t: Tape, rest: &[u8], answers: &mut [u8]) -> Stepped
     s
 }
 
-// Steps through a tape, its answers to the front of a buffer that is no shorter. Returns how many bytes they are.
+// Steps through a tape, its answers to the front of a longer buffer. Returns how many bytes they are.
 fn work(tape: &[u8], answers: &mut [u8]) -> usize
-    requires { ⌜ length (now tape) ≤ length (now answers) ⌝ }
+    requires { ⌜ length (now tape) < length (now answers) ⌝ }
     ensures length { λ r. ⌜ r ≡ length (tapeAnswers (now (tape .entry))) ⌝ }
     ensures bytes { λ _. ⌜ now (answers .exit) ≡ over (tapeAnswers (now (tape .entry))) (now (answers .entry)) ⌝ }
 {

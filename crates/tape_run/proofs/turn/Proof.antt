@@ -4,7 +4,7 @@ use mathlib.Core.Path.{sym}
 use native.Mathlib.Omega.{arith}
 use lib.ListN.{length-take}
 use Rattle.tape.specs.Steps.{step}
-use Rattle.tape.proofs.Bounds.{step-bounded}
+use Rattle.tape.proofs.Bounds.{one-if-top, step-bounded}
 use Rattle.tape_run.proofs.Turns.{In-room, in-room, copied}
 use borrow.Author.Needs.{needs}
 use Rattle.tape_run.proofs.turn.Statement.{statement}
@@ -41,6 +41,7 @@ returns c =
     let a = start .args in
     let b = step-bounded (a .t) (a .rest .now) 65 in
     let p = start .pre in
+    let o = one-if-top (step (a .t) (a .rest .now) 65 .next .ended) in
     (stepped s .returns, copied (a .answers .now) (step (a .t) (a .rest .now) 65 .written) (stepped s .front) (omega arith) (c .before .before .copy-into .ensures))
 
 pub turn-spec : {M : Type 1} → statement M

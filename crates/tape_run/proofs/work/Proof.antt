@@ -11,7 +11,8 @@ use lib.ListN.{length, take, drop, length-drop}
 use Rattle.tape.specs.declared.Tape.{Tape}
 use Rattle.tape.specs.Steps.{step, returned, over}
 use Rattle.tape.proofs.Cases.{from-on}
-use Rattle.tape_run.proofs.Turns.{Turning, turn-first, turn-next, turn-last, turn-length, lent, more, turns-less}
+use Rattle.tape.proofs.Bounds.{one-if, one-if-top}
+use Rattle.tape_run.proofs.Turns.{Turning, turn-first, turn-next, turn-last, turn-length, lent, turns-less}
 use Rattle.tape_run.proofs.work.Statement.{statement}
 use Rattle.tape_run.proofs.work.Tie as tie
 
@@ -19,7 +20,7 @@ abbrev Inv-loop : tie.InvT-loop
 Inv-loop tape answers₀ t₀ at₀ put₀ going₀ answers t at put going = Turning tape answers₀ t answers at put × (going ≡ not (t .ended))
 
 abbrev μ-loop : tie.MeasureT-loop
-μ-loop tape answers₀ t₀ at₀ put₀ going₀ answers t at put going = length tape - at + more going
+μ-loop tape answers₀ t₀ at₀ put₀ going₀ answers t at put going = length tape - at + one-if going
 
 fresh-requires : tie.Need-fresh-requires Inv-loop μ-loop
 fresh-requires c κs = search needs
@@ -38,7 +39,7 @@ part-turn-start c = c .before .loop .inv .0 .in-tape
 part-turn-end : tie.Need-part-turn-end Inv-loop μ-loop
 part-turn-end c = omega arith
 
--- the answers are as long as they were, and what is left of them is no shorter than what is left of the tape
+-- the answers are as long as they were
 room : (c : tie.In-loop Inv-loop μ-loop) → length (c .before .loop .answers) ≡ length (c .before .before .before .before .before .args .answers .now)
 room c = turn-length (c .before .loop .inv .0) (c .before .before .before .before .before .pre)
 
@@ -47,7 +48,7 @@ fits c =
     let w = c .before .loop .inv .0 in
     let p = w .in-tape in
     let q = w .behind in
-    omega (arith, room c, c .before .before .before .before .before .pre)
+    omega (arith, room c, c .before .before .before .before .before .pre, one-if-top (c .before .loop .t .ended))
 
 sub-turn-2 : tie.Need-sub-turn-2 Inv-loop μ-loop
 sub-turn-2 c = fits (c .before)
@@ -58,19 +59,20 @@ part-turn-start-2 c = fits (c .before)
 part-turn-end-2 : tie.Need-part-turn-end-2 Inv-loop μ-loop
 part-turn-end-2 c = omega arith
 
+off : (c : tie.In-loop Inv-loop μ-loop) → c .before .loop .t .ended ≡ false
+off c = not-true _ (sym (c .before .loop .inv .1) ∙ c .loop-test .taken)
+
 turn-requires : tie.Need-turn-requires Inv-loop μ-loop
 turn-requires c κs =
     let i = c .before .before in
     let l = i .before .loop in
     let w = l .inv .0 in
     let q = w .behind in
+    let o = ap one-if (off i) in
     let s = i .before .before .before .before .before .args .tape .now in
     omega (arith, ap length (from-on s (l .at)) ∙ length-drop (l .at) s, ap length (from-on (l .answers) (l .put)) ∙ length-drop (l .put) (l .answers), room i, i .before .before .before .before .before .pre)
 
 -- the next turn
-off : (c : tie.In-loop Inv-loop μ-loop) → c .before .loop .t .ended ≡ false
-off c = not-true _ (sym (c .before .loop .inv .1) ∙ c .loop-test .taken)
-
 stepped : (c : tie.After-turn Inv-loop μ-loop) → let l = c .before .before .before .before .loop in let tape = c .before .before .before .before .before .before .before .before .args .tape .now in
     (c .turn .result ≡ returned (step (l .t) (drop (l .at) tape) 65))
     × (take (l .put) (l .answers) ++ (c .turn .last .1 .1 .0 ++ drop (length (l .answers) - l .put) (drop (l .put) (l .answers)))
@@ -88,12 +90,12 @@ add-at : tie.Need-add-at Inv-loop μ-loop
 add-at c = omega (arith, next (c .before .before .before) .in-tape, c .before .before .before .before .before .before .before .before .before .before .before .good)
 
 add-put : tie.Need-add-put Inv-loop μ-loop
-add-put c = omega (arith, next (c .before .before .before .before) .in-tape, next (c .before .before .before .before) .behind, c .before .before .before .before .before .before .before .before .before .before .before .before .good)
+add-put c = omega (arith, next (c .before .before .before .before) .in-tape, next (c .before .before .before .before) .behind, one-if-top (c .before .before .before .before .turn .result .next .ended), c .before .before .before .before .before .before .before .before .before .before .before .before .good)
 
 loop-less : tie.Need-loop-less Inv-loop μ-loop
 loop-less c =
     let l = c .before .before .before .before .before .before .before .before .before .before .loop in
-    omega (arith, turns-less (c .before .before .before .before .before .before .before .before .before .before .before .before .before .before .args .tape .now) (l .t) (l .at) (l .inv .0 .in-tape) (stepped (c .before .before .before .before .before .before) .0), ap more (c .before .before .before .before .before .before .before .before .before .loop-test .taken))
+    omega (arith, turns-less (c .before .before .before .before .before .before .before .before .before .before .before .before .before .before .args .tape .now) (l .t) (l .at) (l .inv .0 .in-tape) (stepped (c .before .before .before .before .before .before) .0), ap one-if (c .before .before .before .before .before .before .before .before .before .loop-test .taken))
 
 loop-again : tie.Need-loop-again Inv-loop μ-loop
 loop-again c = (next (c .before .before .before .before .before .before), refl)
