@@ -68,7 +68,7 @@ unfolding lastState
 walked-ended (last _ e) = e
 walked-ended (more _ _ w) = walked-ended w
 
-lastRest-more : {t : Tape} {rest : List ℕ} {xs : List Answer} (a : Answer) (before : List ℕ) → Walked t rest xs → lastRest before (a ∷ xs) ≡ lastRest (drop (a .taken) before) xs
+pub lastRest-more : {t : Tape} {rest : List ℕ} {xs : List Answer} (a : Answer) (before : List ℕ) → Walked t rest xs → lastRest before (a ∷ xs) ≡ lastRest (drop (a .taken) before) xs
 unfolding lastRest
 lastRest-more a before (last _ _) = refl
 lastRest-more a before (more _ _ _) = refl

@@ -1,0 +1,159 @@
+-- How a run ended, told by its last answer.
+-- Assumes nothing.
+use mathlib.Core.Path.{_≡_, refl, sym, ap, ap₂, _∙_, subst}
+use mathlib.Core.Bool.{Bool, true, false, true≢false}
+use mathlib.Core.List.{List, [], _∷_, _++_}
+use mathlib.Core.Logic.{inl, inr, ⊎-elim, _↔_}
+use Prim.Native.Nat.{ℕ, _≤_, _<_}
+use native.Mathlib.Omega.{arith}
+use borrow.Author.Tests.{eqb-true, eqb-false}
+use lib.Dec.{eqb}
+use lib.ListN.{length, getD, drop, length-append, List·getD-eq-default}
+use lib.Seq.{drop-append-le}
+use Rattle.field.specs.Lists.{when}
+use Rattle.tape.specs.declared.Tape.{Tape}
+use Rattle.tape.specs.Steps.{Answer, ended, refuses, fresh, step}
+use Rattle.tape.proofs.Bounds.{step-bounded}
+use Rattle.tape.proofs.Ways.{Known, sets, maps, mixes, Unknown}
+use Rattle.tape.proofs.Accepted.{Short, nothing-left, cut-short, short-step, eight-iff, Ending, end-command, no-command, short, ends-iff}
+use Rattle.tape.proofs.Front.{step-front}
+use Rattle.tape_run.specs.Runs.{tapeSteps, lastNumber, lastRest}
+use Rattle.tape_run.proofs.Runs.{Walked, last, more, tape-walked, walked-once, lastRest-more}
+
+-- ---- a step answered 8
+
+-- it ends the tape, and writes one byte
+eight-step : (t : Tape) (rest : List ℕ) → step t rest 65 .number ≡ 8 → step t rest 65 ≡ refuses (ended t) 8 (length rest)
+eight-step t rest e = let h = eight-iff t rest 65 .0 e in short-step t rest (h .1) (h .2)
+
+eight-ends : (t : Tape) (rest : List ℕ) → step t rest 65 .number ≡ 8 → step t rest 65 .next .ended ≡ true
+eight-ends t rest e = ap (λ (a : Answer). a .next .ended) (eight-step t rest e)
+
+going-not-eight : (t : Tape) (rest : List ℕ) → step t rest 65 .next .ended ≡ false → step t rest 65 .number ≡ 8 → ⊥
+going-not-eight t rest z e = true≢false (sym (eight-ends t rest e) ∙ z)
+
+-- ---- the last number
+
+-- a rest that begins with 00 or an unknown command
+pub data Closed (rest : List ℕ) : Type 0 where
+  by-end : 0 < length rest → getD rest 0 0 ≡ 0 → Closed rest
+  by-unknown : Unknown (getD rest 0 0) → Closed rest
+
+known-some : {c w : ℕ} → Known c w → c ≡ 0 → ⊥
+known-some (sets e _) z = omega arith
+known-some (maps (inl e) _) z = omega arith
+known-some (maps (inr e) _) z = omega arith
+known-some (mixes e _) z = omega arith
+
+known-unknown : {c w : ℕ} → Known c w → Unknown c → ⊥
+known-unknown (sets e _) u = u .not1 e
+known-unknown (maps (inl e) _) u = u .not3 e
+known-unknown (maps (inr e) _) u = u .not4 e
+known-unknown (mixes e _) u = u .not5 e
+
+-- such a rest does not stop short of a command
+short-open : {rest : List ℕ} → Short rest → Closed rest → ⊥
+short-open (nothing-left l) (by-end h _) = omega arith
+short-open {rest} (nothing-left l) (by-unknown u) = u .not0 (List·getD-eq-default rest 0 (omega arith))
+short-open (cut-short k _) (by-end _ e) = known-some k e
+short-open (cut-short k _) (by-unknown u) = known-unknown k u
+
+-- the number so far, after a step
+abbrev after : ℕ → Answer → ℕ
+after k a = when (eqb (length (a .written)) 0) k (a .number)
+
+after-eight : (k : ℕ) (a : Answer) → (k ≡ 8 → ⊥) → after k a ≡ 8 → a .number ≡ 8
+after-eight k a h = either (eqb (length (a .written)) 0)
+  where
+    either : (b : Bool) → when b k (a .number) ≡ 8 → a .number ≡ 8
+    either true e = absurd (h e)
+    either false e = e
+
+eight-after : (t : Tape) (rest : List ℕ) (k : ℕ) → step t rest 65 .number ≡ 8 → after k (step t rest 65) ≡ 8
+eight-after t rest k e = ap (λ (a : Answer). after k a) (eight-step t rest e)
+
+walked-number : {t : Tape} {rest : List ℕ} {xs : List Answer} (k : ℕ) → (k ≡ 8 → ⊥) → Walked t rest xs → (lastNumber k xs ≡ 8) ↔ (Closed (lastRest rest xs) → ⊥)
+unfolding lastNumber lastRest
+walked-number k h (last {t} {rest} o e) = (
+  λ z. short-open (eight-iff t rest 65 .0 (after-eight k (step t rest 65) h z) .2),
+  λ f. ⊎-elim (λ z. absurd (true≢false (sym z ∙ o))) (λ z. eight-after t rest k (open-eight f z)) (ends-iff t rest .0 e),
+)
+  where
+    open-eight : (Closed rest → ⊥) → Ending rest → step t rest 65 .number ≡ 8
+    open-eight f (end-command l z) = absurd (f (by-end l z))
+    open-eight f (no-command u) = absurd (f (by-unknown u))
+    open-eight f (short s) = eight-iff t rest 65 .1 (refl, o, s)
+walked-number k h (more {t} {rest} o e w) =
+    rw (lastRest-more (step t rest 65) rest w)
+    (walked-number (after k (step t rest 65)) (λ z. going-not-eight t rest e (after-eight k (step t rest 65) h z)) w)
+
+-- the last step that wrote has number 8 exactly when the run was not ended by a 00 or an unknown command
+pub last-eight : (tape : List ℕ) → (lastNumber 0 (tapeSteps tape) ≡ 8) ↔ (Closed (lastRest tape (tapeSteps tape)) → ⊥)
+last-eight tape = walked-number 0 (λ e. omega arith) (tape-walked tape)
+
+-- ---- a copy of a tape
+
+lastNumber-other : {t : Tape} {rest : List ℕ} {xs : List Answer} (k : ℕ) → Walked t rest xs → (lastNumber k xs ≡ 8 → ⊥) → step t rest 65 .number ≡ 8 → ⊥
+unfolding lastNumber
+lastNumber-other k (last {t} {rest} _ _) h e = h (eight-after t rest k e)
+lastNumber-other k (more {t} {rest} _ z _) h e = going-not-eight t rest z e
+
+-- what is left behind a step, with more bytes behind it
+left-front : (t : Tape) (rest behind : List ℕ) → drop (step t rest 65 .taken) (rest ++ behind) ≡ drop (step t rest 65 .taken) rest ++ behind
+left-front t rest behind = drop-append-le (step t rest 65 .taken) rest behind (step-bounded t rest 65 .within)
+
+walked-front : {t : Tape} {rest : List ℕ} {xs : List Answer} (k : ℕ) (behind : List ℕ) → Walked t rest xs → (lastNumber k xs ≡ 8 → ⊥) → Walked t (rest ++ behind) xs
+unfolding lastNumber
+walked-front k behind (last {t} {rest} o e) h =
+    let p = step-front t rest behind 65 (lastNumber-other k (last o e) h) in
+    subst (λ (a : Answer). Walked t (rest ++ behind) (a ∷ [])) p (last o (ap (λ (a : Answer). a .next .ended) p ∙ e))
+walked-front k behind (more {t} {rest} {xs} o e w) h =
+    let p = step-front t rest behind 65 (going-not-eight t rest e) in
+    let v = subst (λ (x : List ℕ). Walked (step t rest 65 .next) x xs) (sym (left-front t rest behind)) (walked-front (after k (step t rest 65)) behind w h) in
+    subst (λ (a : Answer). Walked t (rest ++ behind) (a ∷ xs)) p
+    (more o (ap (λ (a : Answer). a .next .ended) p ∙ e) (subst (λ (a : Answer). Walked (a .next) (drop (a .taken) (rest ++ behind)) xs) (sym p) v))
+
+-- a copy whose last answer isn't 8 answers as the tape that it was copied from, whatever is missing at its end
+pub nothing-lost : (copy missing : List ℕ) → (lastNumber 0 (tapeSteps copy) ≡ 8 → ⊥) → tapeSteps (copy ++ missing) ≡ tapeSteps copy
+nothing-lost copy missing h = walked-once (tape-walked (copy ++ missing)) (walked-front 0 missing (tape-walked copy) h)
+
+lastRest-front : {t : Tape} {rest : List ℕ} {xs : List Answer} (behind : List ℕ) → Walked t rest xs → lastRest (rest ++ behind) xs ≡ lastRest rest xs ++ behind
+unfolding lastRest
+lastRest-front behind (last _ _) = refl
+lastRest-front behind (more {t} {rest} {xs} _ _ w) =
+    lastRest-more (step t rest 65) (rest ++ behind) w ∙ ap (λ (x : List ℕ). lastRest x xs) (left-front t rest behind)
+    ∙ lastRest-front behind w ∙ ap (λ (x : List ℕ). x ++ behind) (sym (lastRest-more (step t rest 65) rest w))
+
+-- a copy without the command at which the tape's run ends is told by an 8
+pub short-told : (copy missing : List ℕ) → length (lastRest (copy ++ missing) (tapeSteps (copy ++ missing))) ≤ length missing → lastNumber 0 (tapeSteps copy) ≡ 8
+short-told copy missing h = either (eqb (lastNumber 0 (tapeSteps copy)) 8) refl
+  where
+    either : (b : Bool) → eqb (lastNumber 0 (tapeSteps copy)) 8 ≡ b → lastNumber 0 (tapeSteps copy) ≡ 8
+    either true e = eqb-true _ 8 e
+    either false e =
+        let p = nothing-lost copy missing (eqb-false _ 8 e) in
+        let q : lastRest (copy ++ missing) (tapeSteps (copy ++ missing)) ≡ lastRest copy (tapeSteps copy) ++ missing = ap (lastRest (copy ++ missing)) p ∙ lastRest-front missing (tape-walked copy) in
+        let l = ap length q ∙ length-append (lastRest copy (tapeSteps copy)) missing in
+        last-eight copy .1 (short-open (nothing-left (omega arith)))
+
+-- ---- one 8
+
+abbrev head-of : Answer → List Answer → Answer
+head-of d [] = d
+head-of d (a ∷ _) = a
+
+module _ (a : Answer) (behind : List Answer) (eight : a .number ≡ 8) where
+  walked-one : {t : Tape} {rest : List ℕ} {xs : List Answer} → Walked t rest xs → (before : List Answer) → xs ≡ before ++ (a ∷ behind) → (a .written ≡ 8 ∷ []) × (behind ≡ [])
+  walked-one (last {t} {rest} _ _) [] e =
+      let p : step t rest 65 ≡ a = ap (head-of a) e in
+      (ap (λ (x : Answer). x .written) (sym p ∙ eight-step t rest (ap (λ (x : Answer). x .number) p ∙ eight)), sym (ap (drop 1) e))
+  walked-one (last _ _) (b ∷ before) e = let f : ⊥ = omega (arith, ap length e, length-append before (a ∷ behind)) in absurd f
+  walked-one (more {t} {rest} _ z _) [] e =
+      let p : step t rest 65 ≡ a = ap (head-of a) e in
+      absurd (going-not-eight t rest z (ap (λ (x : Answer). x .number) p ∙ eight))
+  walked-one (more _ _ w) (b ∷ before) e = walked-one w before (ap (drop 1) e)
+
+-- a step answered 8 writes that one byte and is the last
+pub one-eight : (tape : List ℕ) (before : List Answer) (a : Answer) (behind : List Answer) → tapeSteps tape ≡ before ++ (a ∷ behind) → a .number ≡ 8
+    → (a .written ≡ 8 ∷ []) × (behind ≡ [])
+one-eight tape before a behind e eight = walked-one a behind eight (tape-walked tape) before e
