@@ -3,15 +3,21 @@
 use mathlib.Core.Path.{_≡_, refl, sym, ap, _∙_, fun-ext}
 use mathlib.Core.Bool.{Bool, true, false, false≢true}
 use mathlib.Core.Logic.{_⊎_, inl, inr, ⊎-elim, _↔_}
-use mathlib.Core.List.{List}
+use mathlib.Core.List.{List, [], _∷_}
 use Prim.Native.Nat.{ℕ, zero, suc, _≤_, _<_}
 use native.Mathlib.Omega.{arith}
-use borrow.Author.Tests.{leb-true, leb-false}
-use lib.Dec.{leb}
-use lib.ListN.{length, replicate}
+use borrow.Author.Tests.{eqb-true, eqb-false, leb-true, leb-false}
+use lib.Dec.{eqb, leb}
+use lib.ListN.{length, getD, take, replicate, List·getD-eq-default}
+use Rattle.field.specs.Lists.{tabulate, xorSum}
+use Rattle.field.specs.Words.{byte, join}
+use Rattle.field.specs.Field.{timesX, shift, mul}
+use Rattle.field.specs.Mixing.{element, matrix, dot, mixBy, mix}
+use Rattle.field.specs.Published.{row}
+use Rattle.labyrinth.specs.Blocks.{each, words, bytes}
 use Rattle.labyrinth.specs.Cipher.{article}
 use Rattle.labyrinth.specs.Keys.{E}
-use Rattle.labyrinth.specs.Refusals.{legal}
+use Rattle.labyrinth.specs.Refusals.{legal, legalLength}
 use Rattle.labyrinth.proofs.Refusals.{legal-iff}
 use Rattle.modes.specs.Cmac.{K1, K2, tag}
 use Rattle.modes.specs.Refusals.{cmacRefusal}
@@ -22,8 +28,15 @@ use Rattle.modes.proofs.Doubling.{doubled-remainder, only-remainder}
 use Rattle.modes.proofs.Refusals.{cmac-iff, cmac-taken, cmac-large, cmac-short, cmac-long}
 use Rattle.modes.proofs.Used.{tag-used}
 use Rattle.cmac.specs.Verification.{verification}
+use Rattle.operands.specs.Operands.{zeros}
+use Rattle.tape.specs.Steps.{keyRefusal, setKey, mapRefusal, mapBlock, mixWord, command, step}
+use Rattle.tape.proofs.Cases.{step-room, step-ended, step-empty}
+use Rattle.tape.proofs.Ways.{Unknown}
+use Rattle.tape_run.specs.Runs.{steps, tapeSteps, joined, tapeAnswers, lastRest, Ran}
+use Rattle.tape_run.proofs.Runs.{run-whole}
+use Rattle.tape_run.proofs.Endings.{Closed, by-end, by-unknown, last-eight, eight-trails, eight-once, copy-whole, copy-short}
 use Rattle.promise.specs.Demands.{Legal}
-use Rattle.promise.specs.Requests.{MasksDoubled, OneRemainder, YesExactly, TagsOfUsedWords, TagNumber, TagNumbers}
+use Rattle.promise.specs.Requests.{MasksDoubled, OneRemainder, YesExactly, TagsOfUsedWords, TagNumber, TagNumbers, EmptyRest, EndedState, FiveFirst, ExampleKept, EmptyTape, UnknownCommand, EightTells, OneEight, NothingLost, ShortTold}
 
 -- ---- Job 1
 
@@ -75,3 +88,66 @@ tag-numbers n t = legal-or-not (legal n) refl
     legal-or-not : (b : Bool) → legal n ≡ b → TagNumber n t (cmacRefusal n t)
     legal-or-not false p = inl (rw p, λ l. false≢true (sym p ∙ legal-iff n .1 l))
     legal-or-not true p = ⊎-elim (λ (e : n ≡ 1). one e (leb 8 t) (leb t 16) refl refl) (λ (h : (n ≡ 2) ⊎ (n ≡ 4)). large p h) (legal-iff n .0 p)
+
+-- ---- Job 2
+
+pub empty-rest : EmptyRest
+empty-rest t e = step-empty t [] 65 refl e refl
+
+pub ended-state : EndedState
+ended-state t rest = step-ended t rest 65 refl
+
+pub five-first : FiveFirst
+five-first = step-room
+
+pub example-kept : ExampleKept
+unfolding tapeAnswers tapeSteps steps joined step command setKey keyRefusal mapBlock mapRefusal mixWord zeros legal legalLength tabulate xorSum byte join timesX shift mul element matrix dot mixBy mix row each words bytes
+example-kept = refl
+
+pub empty-tape : EmptyTape
+unfolding tapeAnswers tapeSteps steps joined step
+empty-tape = refl
+
+-- the first byte of a rest
+first-of : (rest : List ℕ) {c : ℕ} → take 1 rest ≡ c ∷ [] → (0 < length rest) × (getD rest 0 0 ≡ c)
+first-of [] e = let f : ⊥ = omega (arith, ap length e) in absurd f
+first-of (b ∷ rest) e = (omega arith, ap (λ (x : List ℕ). getD x 0 0) e)
+
+of-first : (rest : List ℕ) {c : ℕ} → 0 < length rest → getD rest 0 0 ≡ c → take 1 rest ≡ c ∷ []
+of-first [] h e = let f : ⊥ = omega arith in absurd f
+of-first (b ∷ rest) h e = ap (λ (x : ℕ). x ∷ []) e
+
+closed-by : (rest : List ℕ) → (Closed rest → ⊥) ↔ ((c : ℕ) → take 1 rest ≡ c ∷ [] → (c ≡ 0) ⊎ UnknownCommand c → ⊥)
+closed-by rest = (λ f c e o. f (closed e o), back)
+  where
+    closed : {c : ℕ} → take 1 rest ≡ c ∷ [] → (c ≡ 0) ⊎ UnknownCommand c → Closed rest
+    closed e (inl z) = let b = first-of rest e in by-end (b .0) (b .1 ∙ z)
+    closed e (inr u) =
+        let b = first-of rest e .1 in
+        by-unknown (record { not0 = λ z. u .0 (sym b ∙ z); not1 = λ z. u .1 (sym b ∙ z); not3 = λ z. u .2 (sym b ∙ z); not4 = λ z. u .3 (sym b ∙ z); not5 = λ z. u .4 (sym b ∙ z) })
+
+    some : Unknown (getD rest 0 0) → 0 < length rest
+    some u = either (eqb (length rest) 0) refl
+      where
+        either : (b : Bool) → eqb (length rest) 0 ≡ b → 0 < length rest
+        either true e = absurd (u .not0 (List·getD-eq-default rest 0 (omega (arith, eqb-true (length rest) 0 e))))
+        either false e = let n = eqb-false (length rest) 0 e in omega arith
+
+    back : ((c : ℕ) → take 1 rest ≡ c ∷ [] → (c ≡ 0) ⊎ UnknownCommand c → ⊥) → Closed rest → ⊥
+    back f (by-end h e) = f 0 (of-first rest h e) (inl refl)
+    back f (by-unknown u) = f (getD rest 0 0) (of-first rest (some u) refl) (inr (u .not0, u .not1, u .not3, u .not4, u .not5))
+
+pub eight-tells : EightTells
+eight-tells tape h =
+    let l = last-eight tape in
+    let c = closed-by (lastRest tape (tapeSteps tape)) in
+    (ap (λ (r : Ran). r .written) (run-whole tape 65537 refl h), (λ z. c .0 (l .0 z), λ f. l .1 (c .1 f)), eight-trails tape)
+
+pub one-eight : OneEight
+one-eight = eight-once
+
+pub nothing-lost : NothingLost
+nothing-lost = copy-whole
+
+pub short-told : ShortTold
+short-told = copy-short

@@ -1,11 +1,11 @@
 -- The change requests of document 02 that have landed, sentence by sentence, as Demands has the user's demands.
 -- Assumes nothing.
 use mathlib.Core.Path.{_≡_}
-use mathlib.Core.Bool.{true}
+use mathlib.Core.Bool.{true, false}
 use mathlib.Core.Logic.{_⊎_, _↔_}
-use mathlib.Core.List.{List}
-use Prim.Native.Nat.{ℕ, _*_, _≤_, _<_}
-use lib.ListN.{length, getD, replicate}
+use mathlib.Core.List.{List, [], _∷_, _++_}
+use Prim.Native.Nat.{ℕ, _-_, _*_, _≤_, _<_}
+use lib.ListN.{length, getD, take, drop, replicate}
 use Rattle.field.specs.Field.{polyMul}
 use Rattle.labyrinth.specs.declared.WorkingKey.{WorkingKey}
 use Rattle.labyrinth.specs.Cipher.{article}
@@ -17,6 +17,9 @@ use Rattle.modes.specs.Gf128.{Remainder}
 use Rattle.modes.specs.Refusals.{cmacRefusal}
 use Rattle.cmac.specs.declared.Verified.{Verified}
 use Rattle.cmac.specs.Verification.{verification}
+use Rattle.tape.specs.declared.Tape.{Tape}
+use Rattle.tape.specs.Steps.{Answer, ended, step}
+use Rattle.tape_run.specs.Runs.{tapeSteps, tapeAnswers, lastNumber, lastRest, run}
 use Rattle.promise.specs.Demands.{Legal}
 
 -- ---- Job 1: a tag on each page
@@ -67,3 +70,60 @@ TagNumber n size answer =
 
 abbrev pub TagNumbers : Type 0
 TagNumbers = (n size : ℕ) → TagNumber n size (cmacRefusal n size)
+
+-- ---- Job 2: a tape copied short
+
+-- "From now on only command 00 ends a tape well. A rest of length 0 in a state that has not ended answers 8: it writes that byte, takes none
+-- and ends."
+abbrev pub EmptyRest : Type 0
+EmptyRest = (t : Tape) → t .ended ≡ false → step t [] 65 ≡ record { number = 8; taken = 0; written = 8 ∷ []; next = ended t }
+
+-- an ended state gives 0 and nothing as before, and 5 comes first as before
+abbrev pub EndedState : Type 0
+EndedState = (t : Tape) (rest : List ℕ) → t .ended ≡ true → step t rest 65 ≡ record { number = 0; taken = 0; written = []; next = ended t }
+
+abbrev pub FiveFirst : Type 0
+FiveFirst = (t : Tape) (rest : List ℕ) (room : ℕ) → (room ≡ 65 → ⊥) → step t rest room ≡ record { number = 5; taken = 0; written = []; next = t }
+
+-- "The example tape in document 01 keeps its output. The empty tape, which gave no bytes, now gives 08."
+abbrev pub example : List ℕ
+example = 0x05 ∷ 0x01 ∷ replicate 7 0x00 ++ (0x03 ∷ replicate 64 0x00 ++ (0x01 ∷ 0x03 ∷ 0x02 ∷ replicate 128 0x00 ++ (0x7F ∷ [])))
+
+abbrev pub ExampleKept : Type 0
+ExampleKept = tapeAnswers example ≡ 0x00 ∷ 0x01 ∷ 0x01 ∷ 0x03 ∷ 0x0F ∷ 0x0A ∷ 0x1F ∷ 0x0F ∷ 0x0C ∷ 0x09 ∷ 0x01 ∷ 0x07 ∷ []
+
+abbrev pub EmptyTape : Type 0
+EmptyTape = tapeAnswers [] ≡ 0x08 ∷ []
+
+-- what a tape's run was ended by: the command byte c at which its last step begins; an unknown command is none of document 01's
+abbrev pub EndedBy : List ℕ → ℕ → Type 0
+EndedBy tape c = take 1 (lastRest tape (tapeSteps tape)) ≡ c ∷ []
+
+abbrev pub UnknownCommand : ℕ → Type 0
+UnknownCommand c = (c ≡ 0x00 → ⊥) × (c ≡ 0x01 → ⊥) × (c ≡ 0x03 → ⊥) × (c ≡ 0x04 → ⊥) × (c ≡ 0x05 → ⊥)
+
+-- for operators: of the steps whose bytes a run writes, the last that wrote has number 8 exactly when neither 00 nor an unknown command ended
+-- the run; those bytes then end with 08 (they may do so without it)
+abbrev pub EightTells : Type 0
+EightTells =
+    (tape : List ℕ) → length tape ≤ 65536
+    → (run tape 65537 .written ≡ tapeAnswers tape)
+    × ((lastNumber 0 (tapeSteps tape) ≡ 8) ↔ ((c : ℕ) → EndedBy tape c → (c ≡ 0x00) ⊎ UnknownCommand c → ⊥))
+    × (lastNumber 0 (tapeSteps tape) ≡ 8 → drop (length (tapeAnswers tape) - 1) (tapeAnswers tape) ≡ 8 ∷ [])
+
+-- there is one 8 at most: a step with that number writes it alone, and is the last
+abbrev pub OneEight : Type 0
+OneEight =
+    (tape : List ℕ) (before : List Answer) (a : Answer) (behind : List Answer) → tapeSteps tape ≡ before ++ (a ∷ behind) → a .number ≡ 8
+    → (a .written ≡ 8 ∷ []) × (behind ≡ [])
+
+-- a copy from which bytes at the end are missing: if its last answer isn't 8, it is answered as the whole tape is, step for step
+abbrev pub NothingLost : Type 0
+NothingLost = (copy missing : List ℕ) → (lastNumber 0 (tapeSteps copy) ≡ 8 → ⊥) → tapeSteps (copy ++ missing) ≡ tapeSteps copy
+
+-- and if the command is missing at which the run of the whole tape ends, the copy's last answer is 8: so for every tape that ends in the 00 that
+-- ends its run, and every copy that is shorter
+abbrev pub ShortTold : Type 0
+ShortTold =
+    (copy missing : List ℕ) → length (lastRest (copy ++ missing) (tapeSteps (copy ++ missing))) ≤ length missing
+    → lastNumber 0 (tapeSteps copy) ≡ 8

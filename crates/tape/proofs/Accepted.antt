@@ -19,7 +19,7 @@ use Rattle.operands.proofs.Operands.{zeros-iff}
 use Rattle.tape.specs.declared.Tape.{Tape}
 use Rattle.tape.specs.Steps.{Answer, ended, refuses, ends, atEnd, keyRefusal, setKey, mapRefusal, mapBlock, mixWord, command, step}
 use Rattle.tape.proofs.Cases.{command-0, command-1, command-3, command-4, command-5, command-other, setKey-short, mapBlock-short, mixWord-short, step-room, step-ended, step-empty}
-use Rattle.tape.proofs.Ways.{Known, sets, maps, mixes, Unknown, keeping-some, keeping-not-eight, Maps, enciphers, deciphers, Way, over, empty, closed, unknown, cut, refused, set, mapped, mixed, when-all, way-of}
+use Rattle.tape.proofs.Ways.{Known, sets, maps, mixes, Unknown, keeps-some, keeps-not-eight, Maps, enciphers, deciphers, Way, over, empty, closed, unknown, cut, refused, set, mapped, mixed, when-all, way-of}
 
 -- ---- unused bytes
 
@@ -87,7 +87,7 @@ module _ (t : Tape) (rest : List ℕ) where
   way-zero (closed g e) z = inr (end (g .some) e)
   way-zero (unknown _ _) z = let f : ⊥ = omega arith in absurd f
   way-zero (cut _ _ _) z = let f : ⊥ = omega arith in absurd f
-  way-zero (refused k _ _ _) z = let f : ⊥ = omega (arith, keeping-some k) in absurd f
+  way-zero (refused r k _ _ _) z = let f : ⊥ = omega (arith, keeps-some r k) in absurd f
   way-zero (set _ e h r) z = let k = key-iff (getD rest 1 0) (getD rest 2 0) rest .0 r in inr (key e h (k .0) (k .1) (k .2))
   way-zero (mapped _ e h r) z = let k = map-iff t rest .0 r in inr (block (maps-one e) h (k .0) (k .1) (k .2))
   way-zero (mixed _ e h) z = inr (word e h)
@@ -160,7 +160,7 @@ module _ (t : Tape) (rest : List ℕ) where
   way-eight (closed _ _) z = let f : ⊥ = omega arith in absurd f
   way-eight (unknown _ _) z = let f : ⊥ = omega arith in absurd f
   way-eight (cut g k h) z = (g .on, cut-short k h)
-  way-eight (refused k _ _ _) z = absurd (keeping-not-eight k z)
+  way-eight (refused r k _ _ _) z = absurd (keeps-not-eight r k z)
   way-eight (set _ _ _ _) z = let f : ⊥ = omega arith in absurd f
   way-eight (mapped _ _ _ _) z = let f : ⊥ = omega arith in absurd f
   way-eight (mixed _ _ _) z = let f : ⊥ = omega arith in absurd f
@@ -201,7 +201,7 @@ module _ (t : Tape) (rest : List ℕ) where
   way-ends (closed g e) z = inr (end-command (g .some) e)
   way-ends (unknown _ u) z = inr (no-command u)
   way-ends (cut _ k h) z = inr (short (cut-short k h))
-  way-ends (refused _ _ _ _) z = inl z
+  way-ends (refused _ _ _ _ _) z = inl z
   way-ends (set _ _ _ _) z = inl z
   way-ends (mapped _ _ _ _) z = inl z
   way-ends (mixed _ _ _) z = inl z

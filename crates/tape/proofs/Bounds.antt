@@ -49,7 +49,7 @@ module _ {t : Tape} {rest : List ℕ} where
   way-bounded (closed g _) = record { within = g .some; shorter = omega arith; fits = omega arith }
   way-bounded (unknown g _) = record { within = g .some; shorter = omega arith; fits = omega arith }
   way-bounded (cut g _ _) = record { within = omega arith; shorter = omega (arith, g .some); fits = omega arith }
-  way-bounded (refused _ _ k h) = record { within = h; shorter = omega (arith, known-bounds k .0); fits = omega arith }
+  way-bounded (refused _ _ _ k h) = record { within = h; shorter = omega (arith, known-bounds k .0); fits = omega arith }
   way-bounded (set _ _ h _) = record { within = h; shorter = omega arith; fits = omega arith }
   way-bounded (mapped g e h z) =
       let s = map-size t (take 64 (drop 1 rest)) refl z in
@@ -65,7 +65,7 @@ module _ {t : Tape} {rest : List ℕ} where
   way-moves (closed _ _) e = omega arith
   way-moves (unknown _ _) e = omega arith
   way-moves (cut g _ _) e = g .some
-  way-moves (refused _ _ k _) e = known-bounds k .0
+  way-moves (refused _ _ _ k _) e = known-bounds k .0
   way-moves (set _ _ _ _) e = omega arith
   way-moves (mapped _ _ _ _) e = omega arith
   way-moves (mixed _ _ _) e = omega arith

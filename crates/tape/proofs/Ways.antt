@@ -1,7 +1,7 @@
 -- The ways that a step into an answer buffer of 65 bytes can go, one constructor each. Laws of a step go by them.
 -- Assumes nothing.
-use mathlib.Core.Path.{_≡_, refl, subst}
-use mathlib.Core.Bool.{Bool, true, false}
+use mathlib.Core.Path.{_≡_, refl, sym, ap, _∙_}
+use mathlib.Core.Bool.{Bool, true, false, _||_, false≢true}
 use mathlib.Core.List.{List, []}
 use mathlib.Core.Logic.{_⊎_, inl, inr}
 use Prim.Native.Nat.{ℕ, zero, suc, _*_, _≤_, _<_}
@@ -40,11 +40,8 @@ pub record Going (t : Tape) (rest : List ℕ) : Type 0 where
   pub some : 0 < length rest
 
 -- the numbers of refusals that 'take the whole command and keep the state'
-pub data Keeping : ℕ → Type 0 where
-  one : Keeping 1
-  two : Keeping 2
-  nine : Keeping 9
-  ten : Keeping 10
+abbrev pub keeps : ℕ → Bool
+keeps r = eqb r 1 || (eqb r 2 || (eqb r 9 || eqb r 10))
 
 -- 03 enciphers, 04 deciphers
 pub data Maps (c : ℕ) : (ℕ → List ℕ → List ℕ → List ℕ) → Type 0 where
@@ -57,7 +54,7 @@ pub data Way (t : Tape) (rest : List ℕ) : Answer → Type 0 where
   closed : Going t rest → getD rest 0 0 ≡ 0 → Way t rest (ends t 1)
   unknown : Going t rest → Unknown (getD rest 0 0) → Way t rest (refuses (ended t) 7 1)
   cut : {w : ℕ} → Going t rest → Known (getD rest 0 0) w → length rest < w → Way t rest (refuses (ended t) 8 (length rest))
-  refused : {w number : ℕ} → Keeping number → Going t rest → Known (getD rest 0 0) w → w ≤ length rest → Way t rest (refuses t number w)
+  refused : {w : ℕ} (number : ℕ) → keeps number ≡ true → Going t rest → Known (getD rest 0 0) w → w ≤ length rest → Way t rest (refuses t number w)
   set : Going t rest → getD rest 0 0 ≡ 1 → 131 ≤ length rest → keyRefusal (getD rest 1 0) (getD rest 2 0) (take 128 (drop 3 rest)) ≡ 0
       → Way t rest (answers (withKey (expansion (article .SM) (getD rest 1 0) (getD rest 2 0) (take (8 * (getD rest 1 0 * getD rest 2 0)) (take 128 (drop 3 rest))) 0 .key) t) 0 131 [])
   mapped : {m : ℕ → List ℕ → List ℕ → List ℕ} → Going t rest → Maps (getD rest 0 0) m → 65 ≤ length rest → mapRefusal t (take 64 (drop 1 rest)) ≡ 0
@@ -66,34 +63,29 @@ pub data Way (t : Tape) (rest : List ℕ) : Answer → Type 0 where
 
 -- ---- the numbers of 01, 03 and 04
 
-unless-keeping : {number k r : ℕ} (b : Bool) → Keeping number → (r ≡ suc k → Keeping (suc k)) → unless b number r ≡ suc k → Keeping (suc k)
-unless-keeping true n f e = f e
-unless-keeping false n f e = subst Keeping e n
+unless-keeps : {k : ℕ} (b : Bool) (number r : ℕ) → keeps number ≡ true → (r ≡ suc k → keeps (suc k) ≡ true) → unless b number r ≡ suc k → keeps (suc k) ≡ true
+unless-keeps true number r n f e = f e
+unless-keeps false number r n f e = ap keeps (sym e) ∙ n
 
-none-keeping : {k : ℕ} → 0 ≡ suc k → Keeping (suc k)
-none-keeping e = let f : ⊥ = omega arith in absurd f
+none-keeps : {k : ℕ} → 0 ≡ suc k → keeps (suc k) ≡ true
+none-keeps e = let f : ⊥ = omega arith in absurd f
 
-key-keeping : (n l : ℕ) (key : List ℕ) {k : ℕ} → keyRefusal n l key ≡ suc k → Keeping (suc k)
+key-keeps : (n l : ℕ) (key : List ℕ) {k : ℕ} → keyRefusal n l key ≡ suc k → keeps (suc k) ≡ true
 unfolding keyRefusal
-key-keeping n l key =
-    unless-keeping (legal n) one (unless-keeping (legalLength l) two (unless-keeping (zeros (drop (8 * (n * l)) key)) ten none-keeping))
+key-keeps n l key =
+    unless-keeps (legal n) 1 _ refl (unless-keeps (legalLength l) 2 _ refl (unless-keeps (zeros (drop (8 * (n * l)) key)) 10 _ refl none-keeps))
 
-map-keeping : (t : Tape) (block : List ℕ) {k : ℕ} → mapRefusal t block ≡ suc k → Keeping (suc k)
+map-keeps : (t : Tape) (block : List ℕ) {k : ℕ} → mapRefusal t block ≡ suc k → keeps (suc k) ≡ true
 unfolding mapRefusal
-map-keeping t block =
-    unless-keeping (t .keyed) nine (unless-keeping (legal (t .key .n)) one (unless-keeping (zeros (drop (16 * t .key .n) block)) ten none-keeping))
+map-keeps t block =
+    unless-keeps (t .keyed) 9 _ refl (unless-keeps (legal (t .key .n)) 1 _ refl (unless-keeps (zeros (drop (16 * t .key .n) block)) 10 _ refl none-keeps))
 
-pub keeping-some : {number : ℕ} → Keeping number → 0 < number
-keeping-some one = omega arith
-keeping-some two = omega arith
-keeping-some nine = omega arith
-keeping-some ten = omega arith
+pub keeps-some : (number : ℕ) → keeps number ≡ true → 0 < number
+keeps-some zero e = absurd (false≢true e)
+keeps-some (suc k) e = omega arith
 
-pub keeping-not-eight : {number : ℕ} → Keeping number → number ≡ 8 → ⊥
-keeping-not-eight one e = omega arith
-keeping-not-eight two e = omega arith
-keeping-not-eight nine e = omega arith
-keeping-not-eight ten e = omega arith
+pub keeps-not-eight : (number : ℕ) → keeps number ≡ true → number ≡ 8 → ⊥
+keeps-not-eight number e z = false≢true (ap keeps (sym z) ∙ e)
 
 -- ---- a step goes one of them
 
@@ -114,13 +106,13 @@ module _ (t : Tape) (rest : List ℕ) (g : Going t rest) where
   unfolding setKey
   setKey-way e =
       whole-all (Way t rest) 131 t rest (λ h. cut g (sets e refl) h)
-      (λ h. judged-all (Way t rest) (keyRefusal (getD rest 1 0) (getD rest 2 0) (take 128 (drop 3 rest))) 131 t (λ k r. refused (key-keeping _ _ _ r) g (sets e refl) h) (λ z. set g e h z))
+      (λ h. judged-all (Way t rest) (keyRefusal (getD rest 1 0) (getD rest 2 0) (take 128 (drop 3 rest))) 131 t (λ k r. refused (suc k) (key-keeps _ _ _ r) g (sets e refl) h) (λ z. set g e h z))
 
   mapBlock-way : (m : ℕ → List ℕ → List ℕ → List ℕ) → Maps (getD rest 0 0) m → (getD rest 0 0 ≡ 3) ⊎ (getD rest 0 0 ≡ 4) → Way t rest (mapBlock m t rest)
   unfolding mapBlock
   mapBlock-way m e o =
       whole-all (Way t rest) 65 t rest (λ h. cut g (maps o refl) h)
-      (λ h. judged-all (Way t rest) (mapRefusal t (take 64 (drop 1 rest))) 65 t (λ k r. refused (map-keeping t _ r) g (maps o refl) h) (λ z. mapped g e h z))
+      (λ h. judged-all (Way t rest) (mapRefusal t (take 64 (drop 1 rest))) 65 t (λ k r. refused (suc k) (map-keeps t _ r) g (maps o refl) h) (λ z. mapped g e h z))
 
   mixWord-way : getD rest 0 0 ≡ 5 → Way t rest (mixWord t rest)
   unfolding mixWord

@@ -1,23 +1,23 @@
 -- How a run ended, told by its last answer.
 -- Assumes nothing.
-use mathlib.Core.Path.{_≡_, refl, sym, ap, ap₂, _∙_, subst}
+use mathlib.Core.Path.{_≡_, refl, sym, ap, _∙_, subst}
 use mathlib.Core.Bool.{Bool, true, false, true≢false}
 use mathlib.Core.List.{List, [], _∷_, _++_}
 use mathlib.Core.Logic.{inl, inr, ⊎-elim, _↔_}
-use Prim.Native.Nat.{ℕ, _≤_, _<_}
+use Prim.Native.Nat.{ℕ, _+_, _-_, _≤_, _<_}
 use native.Mathlib.Omega.{arith}
 use borrow.Author.Tests.{eqb-true, eqb-false}
 use lib.Dec.{eqb}
-use lib.ListN.{length, getD, drop, length-append, List·getD-eq-default}
-use lib.Seq.{drop-append-le}
+use lib.ListN.{length, getD, drop, length-append, length-drop, List·getD-eq-default}
+use lib.Seq.{drop-append-le, drop-append-add}
 use Rattle.field.specs.Lists.{when}
 use Rattle.tape.specs.declared.Tape.{Tape}
-use Rattle.tape.specs.Steps.{Answer, ended, refuses, fresh, step}
+use Rattle.tape.specs.Steps.{Answer, ended, refuses, step}
 use Rattle.tape.proofs.Bounds.{step-bounded}
 use Rattle.tape.proofs.Ways.{Known, sets, maps, mixes, Unknown}
 use Rattle.tape.proofs.Accepted.{Short, nothing-left, cut-short, short-step, eight-iff, Ending, end-command, no-command, short, ends-iff}
 use Rattle.tape.proofs.Front.{step-front}
-use Rattle.tape_run.specs.Runs.{tapeSteps, lastNumber, lastRest}
+use Rattle.tape_run.specs.Runs.{tapeSteps, joined, tapeAnswers, lastNumber, lastRest}
 use Rattle.tape_run.proofs.Runs.{Walked, last, more, tape-walked, walked-once, lastRest-more}
 
 -- ---- a step answered 8
@@ -91,6 +91,24 @@ walked-number k h (more {t} {rest} o e w) =
 pub last-eight : (tape : List ℕ) → (lastNumber 0 (tapeSteps tape) ≡ 8) ↔ (Closed (lastRest tape (tapeSteps tape)) → ⊥)
 last-eight tape = walked-number 0 (λ e. omega arith) (tape-walked tape)
 
+-- ---- the last byte
+
+last-byte : {t : Tape} {rest : List ℕ} {xs : List Answer} (k : ℕ) → (k ≡ 8 → ⊥) → Walked t rest xs → lastNumber k xs ≡ 8 → drop (length (joined xs) - 1) (joined xs) ≡ 8 ∷ []
+unfolding lastNumber joined
+last-byte k h (last {t} {rest} _ _) z =
+    ap (λ (a : Answer). drop (length (a .written ++ []) - 1) (a .written ++ [])) (eight-step t rest (after-eight k (step t rest 65) h z))
+last-byte k h (more {t} {rest} {xs} _ e w) z =
+    let a = step t rest 65 in
+    let r = last-byte (after k a) (λ y. going-not-eight t rest e (after-eight k a h y)) w z in
+    let l = sym (length-drop (length (joined xs) - 1) (joined xs)) ∙ ap length r in
+    let i : length (a .written ++ joined xs) - 1 ≡ length (a .written) + (length (joined xs) - 1) = omega (arith, length-append (a .written) (joined xs)) in
+    ap (λ (i : ℕ). drop i (a .written ++ joined xs)) i ∙ drop-append-add (a .written) (joined xs) (length (joined xs) - 1) ∙ r
+
+-- the answers end with that 8
+pub eight-trails : (tape : List ℕ) → lastNumber 0 (tapeSteps tape) ≡ 8 → drop (length (tapeAnswers tape) - 1) (tapeAnswers tape) ≡ 8 ∷ []
+unfolding tapeAnswers
+eight-trails tape = last-byte 0 (λ e. omega arith) (tape-walked tape)
+
 -- ---- a copy of a tape
 
 lastNumber-other : {t : Tape} {rest : List ℕ} {xs : List Answer} (k : ℕ) → Walked t rest xs → (lastNumber k xs ≡ 8 → ⊥) → step t rest 65 .number ≡ 8 → ⊥
@@ -114,8 +132,8 @@ walked-front k behind (more {t} {rest} {xs} o e w) h =
     (more o (ap (λ (a : Answer). a .next .ended) p ∙ e) (subst (λ (a : Answer). Walked (a .next) (drop (a .taken) (rest ++ behind)) xs) (sym p) v))
 
 -- a copy whose last answer isn't 8 answers as the tape that it was copied from, whatever is missing at its end
-pub nothing-lost : (copy missing : List ℕ) → (lastNumber 0 (tapeSteps copy) ≡ 8 → ⊥) → tapeSteps (copy ++ missing) ≡ tapeSteps copy
-nothing-lost copy missing h = walked-once (tape-walked (copy ++ missing)) (walked-front 0 missing (tape-walked copy) h)
+pub copy-whole : (copy missing : List ℕ) → (lastNumber 0 (tapeSteps copy) ≡ 8 → ⊥) → tapeSteps (copy ++ missing) ≡ tapeSteps copy
+copy-whole copy missing h = walked-once (tape-walked (copy ++ missing)) (walked-front 0 missing (tape-walked copy) h)
 
 lastRest-front : {t : Tape} {rest : List ℕ} {xs : List Answer} (behind : List ℕ) → Walked t rest xs → lastRest (rest ++ behind) xs ≡ lastRest rest xs ++ behind
 unfolding lastRest
@@ -125,13 +143,13 @@ lastRest-front behind (more {t} {rest} {xs} _ _ w) =
     ∙ lastRest-front behind w ∙ ap (λ (x : List ℕ). x ++ behind) (sym (lastRest-more (step t rest 65) rest w))
 
 -- a copy without the command at which the tape's run ends is told by an 8
-pub short-told : (copy missing : List ℕ) → length (lastRest (copy ++ missing) (tapeSteps (copy ++ missing))) ≤ length missing → lastNumber 0 (tapeSteps copy) ≡ 8
-short-told copy missing h = either (eqb (lastNumber 0 (tapeSteps copy)) 8) refl
+pub copy-short : (copy missing : List ℕ) → length (lastRest (copy ++ missing) (tapeSteps (copy ++ missing))) ≤ length missing → lastNumber 0 (tapeSteps copy) ≡ 8
+copy-short copy missing h = either (eqb (lastNumber 0 (tapeSteps copy)) 8) refl
   where
     either : (b : Bool) → eqb (lastNumber 0 (tapeSteps copy)) 8 ≡ b → lastNumber 0 (tapeSteps copy) ≡ 8
     either true e = eqb-true _ 8 e
     either false e =
-        let p = nothing-lost copy missing (eqb-false _ 8 e) in
+        let p = copy-whole copy missing (eqb-false _ 8 e) in
         let q : lastRest (copy ++ missing) (tapeSteps (copy ++ missing)) ≡ lastRest copy (tapeSteps copy) ++ missing = ap (lastRest (copy ++ missing)) p ∙ lastRest-front missing (tape-walked copy) in
         let l = ap length q ∙ length-append (lastRest copy (tapeSteps copy)) missing in
         last-eight copy .1 (short-open (nothing-left (omega arith)))
@@ -154,6 +172,6 @@ module _ (a : Answer) (behind : List Answer) (eight : a .number ≡ 8) where
   walked-one (more _ _ w) (b ∷ before) e = walked-one w before (ap (drop 1) e)
 
 -- a step answered 8 writes that one byte and is the last
-pub one-eight : (tape : List ℕ) (before : List Answer) (a : Answer) (behind : List Answer) → tapeSteps tape ≡ before ++ (a ∷ behind) → a .number ≡ 8
+pub eight-once : (tape : List ℕ) (before : List Answer) (a : Answer) (behind : List Answer) → tapeSteps tape ≡ before ++ (a ∷ behind) → a .number ≡ 8
     → (a .written ≡ 8 ∷ []) × (behind ≡ [])
-one-eight tape before a behind e eight = walked-one a behind eight (tape-walked tape) before e
+eight-once tape before a behind e eight = walked-one a behind eight (tape-walked tape) before e
