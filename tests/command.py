@@ -585,6 +585,7 @@ def altered(place, part):
 def main():
     if not os.path.exists(BUILT):
         sys.exit("command: target/rust/release/labyrinth is not there: tests/rust.sh builds it")
+    signal.signal(signal.SIGHUP, signal.SIG_DFL)  # a gate that nohup started ignores it, and so would the command
     with tempfile.TemporaryDirectory() as path:
         place = Place(path)
         held = place.names()

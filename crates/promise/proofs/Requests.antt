@@ -35,7 +35,6 @@ use Rattle.tape.proofs.Ways.{Unknown}
 use Rattle.tape_run.specs.Runs.{steps, tapeSteps, joined, tapeAnswers, lastRest, Ran}
 use Rattle.tape_run.proofs.Runs.{run-whole}
 use Rattle.tape_run.proofs.Endings.{Closed, by-end, by-unknown, last-eight, eight-trails, eight-once, copy-whole, copy-short}
-use Rattle.promise.specs.Demands.{Legal}
 use Rattle.promise.specs.Requests.{MasksDoubled, OneRemainder, YesExactly, TagsOfUsedWords, TagNumber, TagNumbers, EmptyRest, EndedState, FiveFirst, ExampleKept, EmptyTape, UnknownCommand, EightTells, OneEight, NothingLost, ShortTold}
 
 -- ---- Job 1
