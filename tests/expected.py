@@ -185,6 +185,9 @@ def tape_cases():
     for state in (fresh, (1, 1, 0), (3, 0, 0), (3, 1, 1), (1, 0, 1)):
         for rest in (b"", b"\x00", b"\x00\x05", MIX_WORD):
             yield state, 65, rest
+    # an empty rest in more states: 8, and nothing in an ended one
+    for state in ((3, 1, 0), (0, 1, 0), (2, 1, 0), (4, 0, 0), (8, 1, 0), (255, 1, 0), (0, 0, 1), (1, 1, 1), (255, 1, 1)):
+        yield state, 65, b""
     # states by hand: set with n = 3 and with 0, not set with n = 3
     for state in ((3, 1, 0), (3, 0, 0), (0, 1, 0), (8, 1, 0), (255, 1, 0), (1, 0, 0), fresh):
         for rest in (enciphers, deciphers, b"\x03" + b"\x01" * 64, enciphers[:64]):
@@ -201,6 +204,23 @@ def tape_cases():
     yield None, 65, enciphers
     yield None, 65, b"\x02"
     yield None, 65, enciphers
+    # after a 5 the empty rest still gets its 8; after that 8 a step gives 0 and nothing, or 5
+    yield fresh, 64, b""
+    yield None, 65, b""
+    yield None, 65, b""
+    yield None, 65, MIX_WORD
+    yield None, 66, b""
+    # the same under a key that was set, and after a refusal
+    yield fresh, 65, tape_key(1, 2, key)
+    yield None, 65, enciphers
+    yield None, 65, tape_key(3, 2, b"")
+    yield None, 65, b""
+    yield None, 65, enciphers
+    yield None, 65, b""
+    # an empty rest after 00 and an unknown command gets no 8, after a command cut short no second one
+    for rest in (b"\x00", b"\x7f", MIX_WORD[:8]):
+        yield fresh, 65, rest
+        yield None, 65, b""
 
 
 def tape_steps_input():
@@ -211,13 +231,16 @@ def tape_steps_input():
 
 
 def tape_step(state, room, rest):
-    """Document 01's step: number, bytes taken, answer, next state; a state is n, the two marks and the archivists' cipher."""
+    """Document 01's step, as the request 'A tape copied short' alters it: number, bytes taken, answer, next state; a state is n, the two
+    marks and the archivists' cipher."""
     n, keyed, ended, cipher = state
     stop = (n, keyed, 1, cipher)
     if room != 65:
         return 5, 0, b"", state
-    if ended or not rest:
-        return 0, 0, b"", stop
+    if ended:
+        return 0, 0, b"", state
+    if not rest:
+        return 8, 0, b"\x08", stop
     command = rest[0]
     if command == 0:
         return 0, 1, b"", stop
@@ -254,7 +277,7 @@ PROGRAMS = {
     "print_tables": (None, print_tables, 256),
     "vectors": (vectors_input, vectors, 946),
     "refusals": (refusals_input, refusals, 255),
-    "tape_steps": (tape_steps_input, tape_steps, 104),
+    "tape_steps": (tape_steps_input, tape_steps, 130),
 }
 
 

@@ -1,6 +1,6 @@
 #!/usr/bin/env python3
-"""Works tapes with the tape program and holds what it writes to document 01's numbers and to the archivists' vectors; then the tools for
-people on the same tapes; then shows that an altered answer is noticed."""
+"""Works tapes with the tape program and holds what it writes to document 01's numbers, with the 08 of a tape copied short, and to the
+archivists' vectors and program; then the tools for people on the same tapes; then shows that an altered answer is noticed."""
 import importlib.machinery
 import importlib.util
 import json
@@ -15,10 +15,16 @@ HERE = os.path.dirname(os.path.abspath(__file__))
 ROOT = os.path.dirname(HERE)
 PROGRAM = os.path.join(ROOT, "target", "bin", "tape_program")
 TOOLS = os.path.join(ROOT, "tools")
+sys.path.insert(0, os.path.join(HERE, "archivists"))
+import labyrinth
+
 END = b"\x00"
 MIX, MIXED = bytes.fromhex("050100000000000000"), bytes.fromhex("000101030f0a1f0f0c")
 LONGEST = 65536
-COUNT = 801  # the example, 225 vectors and one tape of all, 9 lengths, 266 cut short, 299 refusals
+WIDTH = {1: 131, 3: 65, 4: 65, 5: 9}
+# the example, 225 vectors and one tape of all, 9 lengths, 6 of the longest, 266 cut short, 271 fronts of a tape and the tape, 6 with data
+# that end in 08, 299 refusals, 13 that end by one
+COUNT = 1098
 
 
 def key(n, l, data):
@@ -27,6 +33,9 @@ def key(n, l, data):
 
 def block(command, data):
     return bytes([command]) + data.ljust(64, b"\x00")
+
+
+REFUSED_KEYS = [("n", key(3, 2, b""), 1), ("l", key(1, 5, b""), 2), ("unused", key(1, 2, b"\x01" * 17), 10)]
 
 
 def vectors():
@@ -63,10 +72,25 @@ def lengths():
     yield "65,537 bytes", full + END, b"\x04"
     yield "00 and 65,536 bytes", END + MIX.ljust(LONGEST, b"\x00"), b"\x04"
     yield "far longer", bytes(3 * LONGEST), b"\x04"
-    yield "no bytes", b"", b""
+    yield "no bytes", b"", b"\x08"
     yield "00", END, b""
-    yield "a command, no 00", MIX, MIXED
+    yield "a command, no 00", MIX, MIXED + b"\x08"
     yield "bytes after 00", MIX + END + MIX + b"\x7f", MIXED
+
+
+def longest():
+    """Tapes of 65,536 bytes by how they end, and one byte more."""
+    n, l, data, plain, secret = next(vectors())
+    head, said = key(n, l, data) + block(3, plain), b"\x00\x00" + secret
+    tape, answer = head + MIX * 7260, said + MIXED * 7260
+    yield "the longest that stops between two commands", tape, answer + b"\x08"
+    yield "the same, but its last 05 a 03", tape[:-9] + b"\x03" + tape[-8:], answer[:-9] + b"\x08"
+    yield "the same and 00", tape + END, b"\x04"
+    most, answer = head + block(4, secret) * 4 + MIX * 7231, said + (b"\x00" + plain) * 4 + MIXED * 7231
+    if (len(tape), len(most)) != (LONGEST, LONGEST - 1):
+        sys.exit(f"tapes.py: {len(tape)} and {len(most)} bytes")
+    for last, number in ((END, b""), (b"\x05", b"\x08"), (b"\x7f", b"\x07")):
+        yield f"the longest whose last byte is {last.hex()}", most + last, answer + number
 
 
 def cut_short():
@@ -74,6 +98,33 @@ def cut_short():
     for name, command in whole.items():
         for length in range(1, len(command)):
             yield f"{name} cut after {length} bytes", MIX + command[:length], MIXED + b"\x08"
+
+
+def copied_short():
+    """Every front of a tape that 00 ends: the answers of its whole commands, and one 08; and the tape."""
+    n, l, data, plain, secret = next(v for v in vectors() if v[:2] == (2, 3))
+    commands = [(key(n, l, data), b"\x00"), (block(3, plain), b"\x00" + secret), (block(4, secret), b"\x00" + plain), (MIX, MIXED)]
+    tape = b"".join(command for command, _ in commands) + END
+    for length in range(len(tape)):
+        answers, at = b"", 0
+        for command, answer in commands:
+            at += len(command)
+            if at <= length:
+                answers += answer
+        yield f"{length} of {len(tape)} bytes", tape[:length], answers + b"\x08"
+    yield f"all {len(tape)} bytes", tape, b"".join(answer for _, answer in commands)
+
+
+def data_end_in_08():
+    """The last byte alone does not tell: a word and a block whose answer ends in 08, with 00, without it, and cut short."""
+    word = next(word for word in range(256) if labyrinth.cmbn_poly(word) >> 56 == 8)
+    mix, mixed = b"\x05" + word.to_bytes(8, "little"), b"\x00" + labyrinth.cmbn_poly(word).to_bytes(8, "little")
+    plain = b"\x08" * 16
+    deciphers = key(1, 2, b"") + block(4, labyrinth.Labyrinth(1, bytes(16)).encrypt_block(plain))
+    for name, tape, answer in (("word", mix, mixed), ("block", deciphers, b"\x00\x00" + plain)):
+        yield f"a {name} that ends in 08, and 00", tape + END, answer
+        yield f"a {name} that ends in 08, no 00", tape, answer + b"\x08"
+        yield f"a {name} that ends in 08, and a lone 01", tape + b"\x01", answer + b"\x08"
 
 
 def refusals():
@@ -106,10 +157,22 @@ def refusals():
                     key(size, 2, bytes(16 * size)) + block(command, bytes(data_)) + MIX + END,
                     b"\x00\x0a" + MIXED,
                 )
-    for name, refused, number in (("n", key(3, 2, b""), 1), ("l", key(1, 5, b""), 2), ("unused", key(1, 2, b"\x01" * 17), 10)):
+    for name, refused, number in REFUSED_KEYS:
         tape = key(n, l, data) + refused + block(3, plain) + END
         yield f"the key after one refused for {name}", tape, b"\x00" + bytes([number]) + b"\x00" + secret
     yield "a second key", key(1, 2, b"\x07" * 16) + good + END, b"\x00" + enciphered
+
+
+def refused_last():
+    """Tapes that end by a refusal: 1, 2, 9 and 10 end no tape, so 08 follows; nothing follows 7."""
+    for name, refused, number in REFUSED_KEYS:
+        yield f"a key refused for {name}, no more", refused, bytes([number, 8])
+        yield f"a second key refused for {name}, no more", key(1, 2, b"") + refused, bytes([0, number, 8])
+    for command in (3, 4):
+        yield f"0{command} without a key, no more", block(command, b""), b"\x09\x08"
+        yield f"unused byte of a 0{command}, no more", key(1, 2, b"") + block(command, b"\x01" * 17), b"\x00\x0a\x08"
+    for command in (0x02, 0x08, 0x7F):
+        yield f"unknown {command:02X}, no more", MIX + bytes([command]), MIXED + b"\x07"
 
 
 def work(tape):
@@ -117,10 +180,14 @@ def work(tape):
     return done.stdout, done.stderr
 
 
+def brief(data):
+    return data.hex() if len(data) <= 40 else f"{data[:20].hex()}..{data[-20:].hex()} ({len(data)} bytes)"
+
+
 def difference(tape, answer):
     """What the program wrote, if it isn't the answer alone."""
     got, said = work(tape)
-    return None if got == answer and not said else f"{got.hex()[:80]} {said.decode()}, not {answer.hex()[:80]}"
+    return None if got == answer and not said else f"{brief(got)} {said.decode()}, not {brief(answer)}"
 
 
 def slowly(tape):
@@ -152,18 +219,52 @@ def spoken(lines):
     return [line for line in lines if not line.startswith("#")]
 
 
-def tools_fault(name, tape, answer):
-    """Tape to text to tape, and text to tape to text, with the answers and without; or what is wrong."""
+# how a tape ends, and the lines that tell it
+SHORT = "# verdict: copied short, neither 00 nor an unknown command ended the tape"
+ENDING = {
+    "00": ["# verdict: whole, 00 ended the tape"],
+    "unknown": ["# 07 unknown command: the tape ends here", "# verdict: not known whether whole, an unknown command ended the tape"],
+    "in a command": ["# 08 operands cut short: the tape ends here", SHORT],
+    "between two": ["# 08 nothing is left and no 00 came: the tape ends here", SHORT],
+    "long": [
+        "# 04 the tape is longer than 65,536 bytes: nothing was done",
+        "# verdict: not worked, the tape is longer than 65,536 bytes",
+    ],
+}
+
+
+def ending(tape):
+    """How a tape ends, by the lengths of its commands."""
+    if len(tape) > LONGEST:
+        return "long"
+    at = 0
+    while at < len(tape) and tape[at] in WIDTH:
+        at += WIDTH[tape[at]]
+    if at < len(tape):
+        return "unknown" if tape[at] else "00"
+    return "in a command" if at > len(tape) else "between two"
+
+
+def tools_fault(tape, answer):
+    """The verdict; tape to text to tape, and text to tape to text, with the answers and without; or what is wrong."""
     try:
         lines = SHOW.lines(tape, answer)
     except SHOW.Fault as fault:
         return f"show_tape: {fault}"
+    end = ending(tape)
+    telling = [line for line in lines if line.startswith(("# 04", "# 07", "# 08", "# verdict"))]
+    if telling != ENDING[end] or lines[-1] != telling[-1]:
+        return "another verdict"
+    if end == "long":
+        return None
+    if WRITE.ended(tape) != (end in ("00", "unknown")):
+        return "write_tape finds another end"
     text = "\n".join(lines)
     if WRITE.tape(text) != tape or WRITE.tape("\n".join(spoken(lines))) != tape:
         return "the text makes another tape"
     if SHOW.lines(WRITE.tape(text), answer) != lines:
         return "the tape makes another text"
-    for wrong in (answer[:-1], answer + b"\x00") if answer else (b"\x00",):
+    for wrong in (answer + b"\x00", answer + b"\x08", *([answer[:-1]] if answer else [])):
         try:
             SHOW.lines(tape, wrong)
             return "answers of another tape were not noticed"
@@ -172,22 +273,81 @@ def tools_fault(name, tape, answer):
     return None
 
 
-def tools_by_hand():
-    """The two tools as they are called, on the example."""
-    with tempfile.TemporaryDirectory() as place:
-        text, tape, answers = (os.path.join(place, part) for part in ("text", "tape", "answers"))
-        _, example_tape, example_answer = example()[0]
-        lines = ["mix 0100000000000000", "encipher 00", "key 3 2 00", "bytes 7F"]
-        told = ["# 00 done: 0101030F0A1F0F0C", "# 09 no key was set", "# 01 n isn't 1, 2 or 4", "# 07 unknown command: the tape ends here"]
-        with open(text, "w") as file:
-            file.write("mix 01 00\nencipher   # without a key\n\nkey 3 2\nbytes 7f\n")
-        with open(tape, "wb") as file:
-            subprocess.run([os.path.join(TOOLS, "write_tape"), text], stdout=file, check=True, timeout=60)
-        with open(answers, "wb") as file:
-            file.write(example_answer)
-        shown = subprocess.run([os.path.join(TOOLS, "show_tape"), tape, answers], capture_output=True, timeout=60).stdout.decode().splitlines()
-        with open(tape, "rb") as file:
-            return file.read() == example_tape and shown == [line for pair in zip(lines, told) for line in pair]
+def kept(place, name, data):
+    path = os.path.join(place, name)
+    with open(path, "wb") as file:
+        file.write(data)
+    return path
+
+
+def called(tool, *files):
+    """A tool as people call it: the exit status, what it writes and what it says."""
+    done = subprocess.run([os.path.join(TOOLS, tool), *files], capture_output=True, timeout=60)
+    return done.returncode, done.stdout, done.stderr.decode()
+
+
+def written_by_hand(place):
+    """write_tape as it is called, on texts with an end and without; or what is wrong."""
+    no_end = "write_tape: no 00 ends this tape: its last answer will be 08\n"
+    for text, tape, said in (
+        ("mix 01 00\nencipher   # without a key\n\nkey 3 2\nbytes 7f\n", example()[0][1], ""),
+        ("mix 01\nend\n", MIX + END, ""),
+        ("mix 01\nbytes 00 05\n", MIX + END + b"\x05", ""),
+        ("", b"", no_end),
+        ("mix 01\n", MIX, no_end),
+        ("key 1 2\nencipher\ndecipher\n", key(1, 2, b"") + block(3, b"") + block(4, b""), no_end),
+        ("bytes 05 00\n", b"\x05\x00", no_end),
+        ("mix 01\n" * 7281, MIX * 7281, no_end),
+        ("mix 01\n" * 7282, MIX * 7282, ""),
+    ):
+        got = called("write_tape", kept(place, "text", text.encode()))
+        if got != (0, tape, said):
+            yield f"write_tape on {text[:40]!r}: {got[0]} {brief(got[1])} {got[2]}"
+
+
+def shown_by_hand(place):
+    """show_tape as it is called, on tapes that end in each way; or what is wrong."""
+    mix, done = "mix 0100000000000000", "# 00 done: 0101030F0A1F0F0C"
+    refused = ["encipher 00", "# 09 no key was set", "key 3 2 00", "# 01 n isn't 1, 2 or 4", "bytes 7F"]
+    _, whole, answer = next(data_end_in_08())
+    word, mixed = f"mix {whole[1:9].hex().upper()}", f"# 00 done: {answer[1:].hex().upper()}"
+    for tape, answers, status, lines in (
+        (*example()[0][1:], 0, [mix, done, *refused, *ENDING["unknown"]]),
+        (MIX + END, MIXED, 0, [mix, done, "end", *ENDING["00"]]),
+        (END + MIX, b"", 0, ["end", "bytes 050100000000000000", "# not read: the tape had ended", *ENDING["00"]]),
+        (bytes(LONGEST + 1), b"\x04", 0, ENDING["long"]),
+        (MIX, MIXED + b"\x08", 2, [mix, done, *ENDING["between two"]]),
+        (MIX + MIX[:2], MIXED + b"\x08", 2, [mix, done, "bytes 0501", *ENDING["in a command"]]),
+        (b"", b"\x08", 2, ENDING["between two"]),
+        (whole, answer, 0, [word, mixed, "end", *ENDING["00"]]),
+        (whole[:-1], answer + b"\x08", 2, [word, mixed, *ENDING["between two"]]),
+    ):
+        got = called("show_tape", kept(place, "tape", tape), kept(place, "answers", answers))
+        if got != (status, "".join(line + "\n" for line in lines).encode(), ""):
+            yield f"show_tape on {brief(tape)}: {got[0]} {got[1].decode()[:400]} {got[2]}"
+
+
+def faults_by_hand(place):
+    """show_tape as it is called, on answers that are not the tape's, those by the older rule among them; or what is wrong."""
+    older = "the last 08, of a tape without 00, is missing: these answers are by a program older than that rule, or cut"
+    early, more = "the answers end before the tape does", "there are more answers than the tape has commands"
+    _, whole, answer = next(data_end_in_08())
+    for tape, answers, fault in (
+        (b"", b"", older),
+        (MIX, MIXED, older),
+        (whole[:-1], answer, older),  # although its last byte is 08
+        (MIX + MIX, MIXED, early),
+        (MIX + MIX[:2], MIXED, early),
+        (MIX + MIX, MIXED + b"\x08", "the number 08 cannot answer this command"),
+        (MIX, MIXED + b"\x00", "the number 00 cannot answer the end of a tape without 00"),
+        (MIX, MIXED + b"\x08\x08", more),
+        (MIX + MIX[:2], MIXED + b"\x08\x08", more),
+        (MIX + END, MIXED + b"\x08", more),
+        (bytes(LONGEST + 1), b"\x04\x08", "a tape longer than 65,536 bytes is answered by 04 alone"),
+    ):
+        got = called("show_tape", kept(place, "tape", tape), kept(place, "answers", answers))
+        if got != (1, b"", f"show_tape: {fault}\n"):
+            yield f"show_tape on {brief(tape)} and {brief(answers)}: {got[0]} {got[1].decode()[:400]} {got[2]}"
 
 
 def refused_text(line):
@@ -200,7 +360,8 @@ def refused_text(line):
 
 def main():
     failures = []
-    tapes = [*example(), *block_vectors(), *lengths(), *cut_short(), *refusals()]
+    makers = (example, block_vectors, lengths, longest, cut_short, copied_short, data_end_in_08, refusals, refused_last)
+    tapes = [case for maker in makers for case in maker()]
     for name, tape, answer in tapes:
         wrong = difference(tape, answer)
         if wrong:
@@ -210,8 +371,14 @@ def main():
     for altered in (answer[:-1] + bytes([answer[-1] ^ 1]), answer + b"\x00"):
         if not difference(tape, altered):
             failures.append("an altered answer passed")
+    # so is the answer by the older rule, without the 08 of a tape that stops between two commands, and one with two
+    between = [case for case in tapes if ending(case[1]) == "between two"]
+    for name, tape, answer in between:
+        for altered in (answer[:-1], answer + b"\x08"):
+            if not difference(tape, altered):
+                failures.append(f"{name}: an altered end passed")
     # short reads
-    for name, tape, answer in tapes[:2]:
+    for name, tape, answer in [*tapes[:2], between[-1]]:
         if slowly(tape) != answer:
             failures.append(f"{name}, read slowly")
     # a read error is no end of tape
@@ -222,14 +389,11 @@ def main():
     # the tools for people
     people = [case for case in tapes if not case[0].startswith("a vector")]
     for name, tape, answer in people:
-        if len(tape) <= LONGEST:
-            fault = tools_fault(name, tape, answer)
-            if fault:
-                failures.append(f"{name}: {fault}")
-        elif SHOW.lines(tape, answer) != ["# 04 the tape is longer than 65,536 bytes: nothing was done"]:
-            failures.append(f"{name}: shown otherwise")
-    if not tools_by_hand():
-        failures.append("the tools on the example")
+        fault = tools_fault(tape, answer)
+        if fault:
+            failures.append(f"{name}: {fault}")
+    with tempfile.TemporaryDirectory() as place:
+        failures += [*written_by_hand(place), *shown_by_hand(place), *faults_by_hand(place)]
     for line in ("key 256 2 00", "key 1", "mix 0", "mix 000000000000000000", "encipher " + "00" * 65, "stop", "end 00", "mix 0g"):
         if not refused_text(line):
             failures.append(f"write_tape took: {line}")
