@@ -425,6 +425,47 @@ def card_tag():
     yield from (f"tag-l      {l}", f"tag-key    {digits(key)}", "tagged     the sealed page")
 
 
+# ---- the tape
+
+def mixed(data):
+    return bytes(lab.word_to_bytes(lab.cmbn_poly(lab.bytes_to_word(list(data)))))
+
+
+def word_to_08():
+    """The word, as bytes, of 0x0123456789ABCD00 to 0x0123456789ABCDFF whose mixed word ends in 08."""
+    words = (bytes([first]) + bytes.fromhex("CDAB8967452301") for first in range(256))
+    (word,) = (word for word in words if mixed(word)[-1] == 0x08)
+    return word
+
+
+def tape_commands():
+    """The tape of section 14, command by command: what stands on the tape, and the answer. The key and the block are those of section 9."""
+    l, name = TRACED[1]
+    key, block, _ = found(1, l, name)
+    sealed, word = lab.Labyrinth(1, key).encrypt_block(block), word_to_08()
+    done = ("answer", b"\x00")
+    yield [("command", b"\x01"), ("n-and-l", bytes([1, l])), ("key", key), ("zeros", bytes(128 - len(key)))], [done]
+    yield [("command", b"\x03"), ("block", block), ("zeros", bytes(64 - len(block)))], [done, ("sealed", sealed)]
+    yield [("command", b"\x05"), ("word", word)], [done, ("mixed", mixed(word))]
+    yield [("command", b"\x00")], []
+
+
+def tape():
+    """The commands with their answers, a run of zeros by its length; then the answers to the whole tape, and to the tape without its 00."""
+    length, answers = 0, b""
+    for given, answer in tape_commands():
+        for name, data in given + answer:
+            yield from [f"zeros   {len(data)}"] if name == "zeros" else byte_lines(name, data)
+        yield ""
+        length += sum(len(data) for _, data in given)
+        answers += b"".join(data for _, data in answer)
+    yield f"tape {length} answers {len(answers)}"
+    yield from byte_lines("answers", answers)
+    yield ""
+    yield f"tape {length - 1} answers {len(answers) + 1}"
+    yield from byte_lines("answers", answers + b"\x08")
+
+
 # ---- wrong readings: the archivists' program with a function exchanged, and put back
 
 def transposed(w):
@@ -677,6 +718,7 @@ def values():
         "vectors-cmac": cmac_vectors(),
         "card": card(),
         "card-tag": card_tag(),
+        "tape": tape(),
         "wrong-readings": wrong_readings(),
         "wrong-readings-ctr": wrong_counters(),
         "wrong-readings-cmac": wrong_tags(),

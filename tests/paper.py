@@ -1,7 +1,7 @@
 #!/usr/bin/env python3
 """Reads every value out of docs/OPENING-A-PAGE.md and holds it to both programs: the archivists' (all values, step by step) and ours (what the
-library's functions give), through target/dist/liblabyrinth.a, which `make lib` makes. Then alters a digit in each line of each block in
-turn: each must be noticed."""
+library's functions give), through target/dist/liblabyrinth.a, which `make lib` makes; the tape to target/bin/tape_program, which `make run` makes.
+Then alters a digit in each line of each block in turn: each must be noticed."""
 import ctypes
 import functools
 import os
@@ -15,6 +15,7 @@ HERE = os.path.dirname(os.path.abspath(__file__))
 ROOT = os.path.dirname(HERE)
 PAPER = os.path.join(ROOT, "docs", "OPENING-A-PAGE.md")
 ARCHIVE = os.path.join(ROOT, "target", "dist", "liblabyrinth.a")
+PROGRAM = os.path.join(ROOT, "target", "bin", "tape_program")
 sys.path[:0] = [os.path.join(HERE, "archivists"), HERE]
 import labyrinth as lab
 import make_paper_values
@@ -25,8 +26,8 @@ BYTE_LINE = re.compile(r"^(\S+) +((?:[0-9A-F]{2}){1,4}(?: (?:[0-9A-F]{2}){1,4}){
 WORD_CELL = re.compile(r"^(\S+) +(0x[0-9A-F]{16}(?: 0x[0-9A-F]{16})?)$")
 SIZES = [(n, l) for n in (1, 2, 4) for l in (2, 3, 4)]
 READ = {
-    "blocks": 27, "byte strings": 180, "half-blocks": 396, "block vectors": 18, "CBC runs": 3, "CTR runs": 7, "traced blocks": 3, "tags": 8,
-    "flipped bits of tags and messages": 2080,
+    "blocks": 28, "byte strings": 195, "half-blocks": 396, "block vectors": 18, "CBC runs": 3, "CTR runs": 7, "traced blocks": 3, "tags": 8,
+    "flipped bits of tags and messages": 2080, "tapes": 514,
 }
 
 
@@ -90,6 +91,14 @@ def our_answer(l, key, message, tag, number=0):
     yes = ctypes.c_uint8(2)
     called("cmac_verify", l, key, message, tag, ctypes.byref(yes), number=number)
     return yes.value
+
+
+@functools.lru_cache(maxsize=None)
+def our_answers(tape):
+    """What the tape program writes for a tape."""
+    done = subprocess.run([PROGRAM], input=tape, capture_output=True, timeout=60)
+    same("what the tape program says on standard error", done.stderr, b"")
+    return done.stdout
 
 
 @functools.lru_cache(maxsize=None)
@@ -551,6 +560,132 @@ def card_tag(text):
     tagged(int(said["tag-l"]), bytes.fromhex(said["tag-key"]), TRACED["card"]["sealed"], tag)
 
 
+# ---- tapes
+
+WIDTH = {0x00: 1, 0x01: 131, 0x03: 65, 0x04: 65, 0x05: 9}  # of a command with its operands
+LONGEST = 65536
+NUMBERS = (0, 1, 2, 4, 7, 8, 9, 10)
+
+
+def worked(tape):
+    """The answers to a tape, one after another, by section 14's rules and the archivists' functions."""
+    if len(tape) > LONGEST:
+        return [b"\x04"]
+    out, n, key = [], None, None
+    while True:
+        if not tape:
+            return [*out, b"\x08"]
+        command = tape[0]
+        if command == 0x00:
+            return out
+        if command not in WIDTH:
+            return [*out, b"\x07"]
+        if len(tape) < WIDTH[command]:
+            return [*out, b"\x08"]
+        operands, tape = tape[1 : WIDTH[command]], tape[WIDTH[command] :]
+        number, data = 0, b""
+        if command == 0x01:
+            size, l, used = operands[0], operands[1], 2 + 8 * operands[0] * operands[1]
+            number = 1 if size not in (1, 2, 4) else 2 if l not in (2, 3, 4) else 10 if any(operands[used:]) else 0
+            if number == 0:
+                n, key = size, operands[2:used]
+        elif command == 0x05:
+            data = bytes(lab.word_to_bytes(lab.cmbn_poly(lab.bytes_to_word(list(operands)))))
+        else:
+            number = 9 if key is None else 10 if any(operands[16 * n :]) else 0
+            if number == 0:
+                data = their("encrypt_block" if command == 0x03 else "decrypt_block", n, key, operands[: 16 * n])
+        out.append(bytes([number]) + data)
+
+
+def command(byte, *operands):
+    return (bytes([byte]) + b"".join(operands)).ljust(WIDTH[byte], b"\x00")
+
+
+def set_key(n, l, key=b""):
+    return command(0x01, bytes([n, l]), key)
+
+
+EXAMPLE = command(0x05, b"\x01") + command(0x03) + set_key(3, 2) + b"\x7f"
+MIX, END, WRONG = command(0x05, bytes(range(8))), b"\x00", b"\x01" * 128
+
+
+def fronts(tape, answers):
+    """Every proper front of a tape: it gets the answers to the whole commands in it, and one 08."""
+    ends = [WIDTH.get(tape[0], 1)]
+    while ends[-1] < len(tape):
+        ends.append(ends[-1] + WIDTH.get(tape[ends[-1]], 1))
+    for length in range(len(tape)):
+        yield tape[:length], b"".join(answers[: sum(end <= length for end in ends)]) + b"\x08"
+
+
+def ruled():
+    """Tapes for what the shown ones do not meet: each refusal, which of two comes first, the key that stays, what is not read, the longest."""
+    for wrong in (0, 3, 5, 255):
+        yield from (set_key(wrong, 2) + MIX + END, set_key(wrong, wrong, WRONG) + END)
+    for wrong in (0, 1, 5, 255):
+        yield from (set_key(1, wrong) + MIX + END, set_key(4, wrong, WRONG) + END)
+    for n, l in SIZES:
+        good = set_key(n, l, bytes(range(8 * n * l)))
+        blocks = command(0x03, bytes(range(16 * n))) + command(0x04, bytes(range(16 * n)))
+        yield good + blocks + END
+        for refused in (set_key(3, 2), set_key(1, 5), set_key(1, 2, WRONG)):
+            yield good + refused + blocks + END
+        for place in {8 * n * l, 127} if 8 * n * l < 128 else ():
+            yield set_key(n, l, bytes(place) + b"\x80") + MIX + END
+        for place in {16 * n, 63} if n < 4 else ():
+            yield good + command(0x03, bytes(place) + b"\x80") + command(0x04, bytes(place) + b"\x01") + blocks + END
+    for byte in (0x03, 0x04):
+        yield command(byte, WRONG[:64]) + set_key(1, 5) + command(byte) + MIX + END
+    for byte in (0x02, 0x06, 0x08, 0x80, 0xFF):
+        yield MIX + bytes([byte]) + MIX + END
+    for more in (END, MIX, EXAMPLE, b"\x08"):
+        yield from (MIX + END + more, EXAMPLE + more)
+    stops = command(0x03) * 8 + MIX * 7224  # at a command's end, and has 65,536 bytes
+    for length in (LONGEST, LONGEST + 1):
+        yield from ((MIX + END).ljust(length, b"\x05"), (MIX * length)[:length], stops.ljust(length, END))
+
+
+COMMAND_LINES = [
+    "command n-and-l key zeros answer".split(),
+    "command block zeros answer sealed".split(),
+    "command word answer mixed".split(),
+    ["command"],
+]
+
+
+def tape(text):
+    """The shown tape, command by command and whole; its fronts; the tape in the text and its fronts; the tapes for the other rules."""
+    *records_of_commands, whole, short = records(text)
+    shown, answers, found = b"", [], {}
+    for lines in records_of_commands:
+        read = []
+        for line in lines:
+            zeros = re.fullmatch(r"zeros   (\d+)", line)
+            read += [("zeros", bytes(int(zeros[1])))] if zeros else strings([line])
+        at = [*(name for name, _ in read), "answer"].index("answer")
+        shown += b"".join(data for _, data in read[:at])
+        answers.append(b"".join(data for _, data in read[at:]))
+        same("the names", [name for name, _ in read], COMMAND_LINES[len(answers) - 1])
+        found.update(read)
+    same("the commands", len(answers), len(COMMAND_LINES))
+    same("the key and the block of section 9", (found["key"], found["block"]), (TRACED[1]["key"], TRACED[1]["block"]))
+    same("by the rules, one after another", worked(shown), answers[:-1])
+    same("the last number and the last byte", (answers[-2][0], answers[-2][-1]), (0, 0x08))
+    wanted = [(shown, b"".join(answers)), (shown[:-1], b"".join(answers) + b"\x08")]
+    for (first, *lines), (one, all_answers) in zip((whole, short), wanted):
+        same("the lengths", head(f"the {first}", "tape", "answers")[1:], [len(one), len(all_answers)])
+        same("the answers", parts(lines, "answers"), [all_answers])
+    wanted += [(b"", b"\x08"), *fronts(shown, answers), *fronts(EXAMPLE, worked(EXAMPLE))]
+    for one, all_answers in wanted:
+        same(f"by the rules, {len(one)} bytes", b"".join(worked(one)).hex(), all_answers.hex())
+    tried = {one for one, _ in wanted} | {EXAMPLE, *ruled()}
+    for one in sorted(tried):
+        same(f"ours, {len(one)} bytes", our_answers(one).hex(), b"".join(worked(one)).hex())
+    same("the numbers met", {answer[0] for one in tried for answer in worked(one)}, set(NUMBERS))
+    COUNTED["tapes"] += len(tried)
+
+
 # in the order in which they are checked: a trace's later blocks know the key and the block of its first ones, the card's tag its sealed page
 CHECKS = {
     "table-1": table_1,
@@ -575,6 +710,7 @@ CHECKS = {
     "vectors-cmac": cmac,
     "card": card,
     "card-tag": card_tag,
+    "tape": tape,
     "wrong-readings": wrong_readings,
     "wrong-readings-ctr": wrong_by("wrong_counters"),
     "wrong-readings-cmac": wrong_by("wrong_tags"),
@@ -629,6 +765,22 @@ def sentences():
     yield f"the sealed page of {text.index('.') + 1} bytes"
     yield f'without line ends: "{text.rstrip()}"\n'
     yield f"It never passes 0x{255 * sum(range(1, 17)):04X}."
+    yield "the five commands have {}, {}, {}, {} and {} bytes.".format(*WIDTH.values())
+    yield from (f"\n| {number} | `{number:02X}` | " for number in NUMBERS if number != 4)
+    yield f"A tape has at most {LONGEST:,} bytes."
+    yield f"A tape of more than {LONGEST:,} bytes is answered by the byte `04` alone"
+    commands = [given for given, _ in make_paper_values.tape_commands()]
+    zeros, length = len(dict(commands[0])["zeros"]), sum(len(data) for given in commands for _, data in given)
+    yield f"`zeros {zeros}` is {zeros} bytes `00`."
+    yield f"the tape, of {length} bytes."
+    yield f"to its first {length - 1} bytes, which lack the `00`."
+    yield f"Each front of the tape, its first 0, 1, 2, ..., {length - 1} bytes, is answered"
+    spaced = lambda data: f"`{data.hex(' ').upper()}`"
+    first, *rest = all_answers = worked(EXAMPLE)
+    given = (EXAMPLE[:2], EXAMPLE[9:10], EXAMPLE[74:77], EXAMPLE[205:])
+    yield "{} and seven bytes `00`; {} and 64 bytes `00`; {} and 128 bytes `00`; {}. Its answers".format(*map(spaced, given))
+    yield f"Its answers are {len(b''.join(all_answers))} bytes: {spaced(first)} (0 and the mixed word), "
+    yield "the mixed word), {} (no key was set), {} (n is 3), {} (the command is unknown).".format(*map(spaced, rest))
     by = {}
     for n, l in SIZES:
         by.setdefault(8 * n * l, []).append(f"({n}, {l})")
@@ -683,6 +835,8 @@ def main():
         sys.exit(f"paper: FAILED: other blocks: {sorted(set(blocks) ^ set(CHECKS))}")
     with tempfile.TemporaryDirectory() as place:
         LIBRARY = ours(place)
+    if not os.path.exists(PROGRAM):
+        sys.exit("paper.py: target/bin/tape_program is not there: make run")
     for name, check in CHECKS.items():
         COUNTED["blocks"] += 1
         try:
