@@ -19,7 +19,7 @@ use Rattle.cmac.specs.declared.Verified.{Verified}
 use Rattle.cmac.specs.Verification.{verification}
 use Rattle.tape.specs.declared.Tape.{Tape}
 use Rattle.tape.specs.Steps.{Answer, ended, step}
-use Rattle.tape_run.specs.Runs.{tapeSteps, tapeAnswers, lastNumber, lastRest, run}
+use Rattle.tape_run.specs.Runs.{tapeSteps, tapeAnswers, lastAnswer, lastRest, run}
 use Rattle.promise.specs.Demands.{Legal}
 
 -- ---- Job 1: a tag on each page
@@ -103,13 +103,13 @@ abbrev pub UnknownCommand : ℕ → Type 0
 UnknownCommand c = (c ≡ 0x00 → ⊥) × (c ≡ 0x01 → ⊥) × (c ≡ 0x03 → ⊥) × (c ≡ 0x04 → ⊥) × (c ≡ 0x05 → ⊥)
 
 -- for operators: of the steps whose bytes a run writes, the last that wrote has number 8 exactly when neither 00 nor an unknown command ended
--- the run; those bytes then end with 08 (they may do so without it)
+-- the run; and then those bytes end with 08 (they may end so without it too, since data may)
 abbrev pub EightTells : Type 0
 EightTells =
     (tape : List ℕ) → length tape ≤ 65536
     → (run tape 65537 .written ≡ tapeAnswers tape)
-    × ((lastNumber 0 (tapeSteps tape) ≡ 8) ↔ ((c : ℕ) → EndedBy tape c → (c ≡ 0x00) ⊎ UnknownCommand c → ⊥))
-    × (lastNumber 0 (tapeSteps tape) ≡ 8 → drop (length (tapeAnswers tape) - 1) (tapeAnswers tape) ≡ 8 ∷ [])
+    × ((lastAnswer tape ≡ 8) ↔ ((c : ℕ) → EndedBy tape c → (c ≡ 0x00) ⊎ UnknownCommand c → ⊥))
+    × (lastAnswer tape ≡ 8 → drop (length (tapeAnswers tape) - 1) (tapeAnswers tape) ≡ 8 ∷ [])
 
 -- there is one 8 at most: a step with that number writes it alone, and is the last
 abbrev pub OneEight : Type 0
@@ -119,11 +119,11 @@ OneEight =
 
 -- a copy from which bytes at the end are missing: if its last answer isn't 8, it is answered as the whole tape is, step for step
 abbrev pub NothingLost : Type 0
-NothingLost = (copy missing : List ℕ) → (lastNumber 0 (tapeSteps copy) ≡ 8 → ⊥) → tapeSteps (copy ++ missing) ≡ tapeSteps copy
+NothingLost = (copy missing : List ℕ) → (lastAnswer copy ≡ 8 → ⊥) → tapeSteps (copy ++ missing) ≡ tapeSteps copy
 
 -- and if the command is missing at which the run of the whole tape ends, the copy's last answer is 8: so for every tape that ends in the 00 that
 -- ends its run, and every copy that is shorter
 abbrev pub ShortTold : Type 0
 ShortTold =
     (copy missing : List ℕ) → length (lastRest (copy ++ missing) (tapeSteps (copy ++ missing))) ≤ length missing
-    → lastNumber 0 (tapeSteps copy) ≡ 8
+    → lastAnswer copy ≡ 8

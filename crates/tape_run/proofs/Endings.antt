@@ -17,7 +17,7 @@ use Rattle.tape.proofs.Bounds.{step-bounded}
 use Rattle.tape.proofs.Ways.{Known, sets, maps, mixes, Unknown}
 use Rattle.tape.proofs.Accepted.{Short, nothing-left, cut-short, short-step, eight-iff, Ending, end-command, no-command, short, ends-iff}
 use Rattle.tape.proofs.Front.{step-front}
-use Rattle.tape_run.specs.Runs.{tapeSteps, joined, tapeAnswers, lastNumber, lastRest}
+use Rattle.tape_run.specs.Runs.{tapeSteps, joined, tapeAnswers, lastNumber, lastAnswer, lastRest}
 use Rattle.tape_run.proofs.Runs.{Walked, last, more, tape-walked, walked-once, lastRest-more}
 
 -- ---- a step answered 8
@@ -88,7 +88,7 @@ walked-number k h (more {t} {rest} o e w) =
     (walked-number (after k (step t rest 65)) (λ z. going-not-eight t rest e (after-eight k (step t rest 65) h z)) w)
 
 -- the last step that wrote has number 8 exactly when the run was not ended by a 00 or an unknown command
-pub last-eight : (tape : List ℕ) → (lastNumber 0 (tapeSteps tape) ≡ 8) ↔ (Closed (lastRest tape (tapeSteps tape)) → ⊥)
+pub last-eight : (tape : List ℕ) → (lastAnswer tape ≡ 8) ↔ (Closed (lastRest tape (tapeSteps tape)) → ⊥)
 last-eight tape = walked-number 0 (λ e. omega arith) (tape-walked tape)
 
 -- ---- the last byte
@@ -105,7 +105,7 @@ last-byte k h (more {t} {rest} {xs} _ e w) z =
     ap (λ (i : ℕ). drop i (a .written ++ joined xs)) i ∙ drop-append-add (a .written) (joined xs) (length (joined xs) - 1) ∙ r
 
 -- the answers end with that 8
-pub eight-trails : (tape : List ℕ) → lastNumber 0 (tapeSteps tape) ≡ 8 → drop (length (tapeAnswers tape) - 1) (tapeAnswers tape) ≡ 8 ∷ []
+pub eight-trails : (tape : List ℕ) → lastAnswer tape ≡ 8 → drop (length (tapeAnswers tape) - 1) (tapeAnswers tape) ≡ 8 ∷ []
 unfolding tapeAnswers
 eight-trails tape = last-byte 0 (λ e. omega arith) (tape-walked tape)
 
@@ -132,7 +132,7 @@ walked-front k behind (more {t} {rest} {xs} o e w) h =
     (more o (ap (λ (a : Answer). a .next .ended) p ∙ e) (subst (λ (a : Answer). Walked (a .next) (drop (a .taken) (rest ++ behind)) xs) (sym p) v))
 
 -- a copy whose last answer isn't 8 answers as the tape that it was copied from, whatever is missing at its end
-pub copy-whole : (copy missing : List ℕ) → (lastNumber 0 (tapeSteps copy) ≡ 8 → ⊥) → tapeSteps (copy ++ missing) ≡ tapeSteps copy
+pub copy-whole : (copy missing : List ℕ) → (lastAnswer copy ≡ 8 → ⊥) → tapeSteps (copy ++ missing) ≡ tapeSteps copy
 copy-whole copy missing h = walked-once (tape-walked (copy ++ missing)) (walked-front 0 missing (tape-walked copy) h)
 
 lastRest-front : {t : Tape} {rest : List ℕ} {xs : List Answer} (behind : List ℕ) → Walked t rest xs → lastRest (rest ++ behind) xs ≡ lastRest rest xs ++ behind
@@ -143,10 +143,10 @@ lastRest-front behind (more {t} {rest} {xs} _ _ w) =
     ∙ lastRest-front behind w ∙ ap (λ (x : List ℕ). x ++ behind) (sym (lastRest-more (step t rest 65) rest w))
 
 -- a copy without the command at which the tape's run ends is told by an 8
-pub copy-short : (copy missing : List ℕ) → length (lastRest (copy ++ missing) (tapeSteps (copy ++ missing))) ≤ length missing → lastNumber 0 (tapeSteps copy) ≡ 8
-copy-short copy missing h = either (eqb (lastNumber 0 (tapeSteps copy)) 8) refl
+pub copy-short : (copy missing : List ℕ) → length (lastRest (copy ++ missing) (tapeSteps (copy ++ missing))) ≤ length missing → lastAnswer copy ≡ 8
+copy-short copy missing h = either (eqb (lastAnswer copy) 8) refl
   where
-    either : (b : Bool) → eqb (lastNumber 0 (tapeSteps copy)) 8 ≡ b → lastNumber 0 (tapeSteps copy) ≡ 8
+    either : (b : Bool) → eqb (lastAnswer copy) 8 ≡ b → lastAnswer copy ≡ 8
     either true e = eqb-true _ 8 e
     either false e =
         let p = copy-whole copy missing (eqb-false _ 8 e) in

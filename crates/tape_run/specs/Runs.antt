@@ -37,6 +37,10 @@ unfoldable pub lastNumber : ℕ → List Answer → ℕ
 lastNumber k [] = k
 lastNumber k (a ∷ more) = lastNumber (when (eqb (length (a .written)) 0) k (a .number)) more
 
+-- the number of the last answer to a tape; 0 if there is none
+abbrev pub lastAnswer : List ℕ → ℕ
+lastAnswer tape = lastNumber 0 (tapeSteps tape)
+
 -- the rest at which the last step begins
 unfoldable pub lastRest : List ℕ → List Answer → List ℕ
 lastRest rest [] = rest
