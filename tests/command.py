@@ -585,7 +585,9 @@ def altered(place, part):
 def main():
     if not os.path.exists(BUILT):
         sys.exit("command: target/rust/release/labyrinth is not there: tests/rust.sh builds it")
-    signal.signal(signal.SIGHUP, signal.SIG_DFL)  # a gate that nohup started ignores it, and so would the command
+    # what the gate was started to ignore (HUP by nohup, INT and QUIT behind a shell's &) the command would ignore too
+    for number in (signal.SIGHUP, signal.SIGINT, signal.SIGQUIT):
+        signal.signal(number, signal.SIG_DFL)
     with tempfile.TemporaryDirectory() as path:
         place = Place(path)
         held = place.names()
