@@ -2,13 +2,13 @@
 -- Assumes nothing.
 use mathlib.Core.Path.{_≡_, refl, sym, ap, _∙_, fun-ext}
 use mathlib.Core.Bool.{Bool, true, false, false≢true}
-use mathlib.Core.Logic.{_⊎_, inl, inr, ⊎-elim, _↔_}
+use mathlib.Core.Logic.{_⊎_, inl, inr, ⊎-elim, ⊎-map, _↔_}
 use mathlib.Core.List.{List, [], _∷_}
 use Prim.Native.Nat.{ℕ, zero, suc, _≤_, _<_}
 use native.Mathlib.Omega.{arith}
-use borrow.Author.Tests.{eqb-true, eqb-false, leb-true, leb-false}
-use lib.Dec.{eqb, leb}
-use lib.ListN.{length, getD, take, replicate, List·getD-eq-default}
+use borrow.Author.Tests.{leb-true, leb-false}
+use lib.Dec.{leb}
+use lib.ListN.{length, getD, take, replicate}
 use Rattle.field.specs.Lists.{tabulate, xorSum}
 use Rattle.field.specs.Words.{byte, join}
 use Rattle.field.specs.Field.{timesX, shift, mul}
@@ -31,10 +31,10 @@ use Rattle.cmac.specs.Verification.{verification}
 use Rattle.operands.specs.Operands.{zeros}
 use Rattle.tape.specs.Steps.{keyRefusal, setKey, mapRefusal, mapBlock, mixWord, command, step}
 use Rattle.tape.proofs.Cases.{step-room, step-ended, step-empty}
-use Rattle.tape.proofs.Ways.{Unknown}
+use Rattle.tape.proofs.Accepted.{Closed}
 use Rattle.tape_run.specs.Runs.{steps, tapeSteps, joined, tapeAnswers, lastRest, Ran}
 use Rattle.tape_run.proofs.Runs.{run-whole}
-use Rattle.tape_run.proofs.Endings.{Closed, by-end, by-unknown, last-eight, eight-trails, eight-once, copy-whole, copy-short}
+use Rattle.tape_run.proofs.Endings.{last-eight, eight-trails, eight-once, copy-whole, copy-short}
 use Rattle.promise.specs.Requests.{MasksDoubled, OneRemainder, YesExactly, TagsOfUsedWords, TagNumber, TagNumbers, EmptyRest, EndedState, FiveFirst, ExampleKept, EmptyTape, UnknownCommand, EightTells, OneEight, NothingLost, ShortTold}
 
 -- ---- Job 1
@@ -120,21 +120,15 @@ closed-by : (rest : List ℕ) → (Closed rest → ⊥) ↔ ((c : ℕ) → take 
 closed-by rest = (λ f c e o. f (closed e o), back)
   where
     closed : {c : ℕ} → take 1 rest ≡ c ∷ [] → (c ≡ 0) ⊎ UnknownCommand c → Closed rest
-    closed e (inl z) = let b = first-of rest e in by-end (b .0) (b .1 ∙ z)
-    closed e (inr u) =
-        let b = first-of rest e .1 in
-        by-unknown (record { not0 = λ z. u .0 (sym b ∙ z); not1 = λ z. u .1 (sym b ∙ z); not3 = λ z. u .2 (sym b ∙ z); not4 = λ z. u .3 (sym b ∙ z); not5 = λ z. u .4 (sym b ∙ z) })
-
-    some : Unknown (getD rest 0 0) → 0 < length rest
-    some u = either (eqb (length rest) 0) refl
-      where
-        either : (b : Bool) → eqb (length rest) 0 ≡ b → 0 < length rest
-        either true e = absurd (u .not0 (List·getD-eq-default rest 0 (omega (arith, eqb-true (length rest) 0 e))))
-        either false e = let n = eqb-false (length rest) 0 e in omega arith
+    closed e o =
+        let b = first-of rest e in
+        record {
+          some = b .0;
+          by = ⊎-map (λ z. b .1 ∙ z) (λ u. record { not0 = λ z. u .0 (sym (b .1) ∙ z); not1 = λ z. u .1 (sym (b .1) ∙ z); not3 = λ z. u .2 (sym (b .1) ∙ z); not4 = λ z. u .3 (sym (b .1) ∙ z); not5 = λ z. u .4 (sym (b .1) ∙ z) }) o;
+        }
 
     back : ((c : ℕ) → take 1 rest ≡ c ∷ [] → (c ≡ 0) ⊎ UnknownCommand c → ⊥) → Closed rest → ⊥
-    back f (by-end h e) = f 0 (of-first rest h e) (inl refl)
-    back f (by-unknown u) = f (getD rest 0 0) (of-first rest (some u) refl) (inr (u .not0, u .not1, u .not3, u .not4, u .not5))
+    back f c = f (getD rest 0 0) (of-first rest (c .some) refl) (⊎-map (λ z. z) (λ u. (u .not0, u .not1, u .not3, u .not4, u .not5)) (c .by))
 
 pub eight-tells : EightTells
 eight-tells tape h =

@@ -188,18 +188,22 @@ eight-iff t rest room = (
 
 -- ---- when the tape is ended
 
--- no command is left in a rest: it begins with 00, or with an unknown one, or it stops short of a whole one
+-- a rest that begins with 00 or an unknown command
+pub record Closed (rest : List ℕ) : Type 0 where
+  pub some : 0 < length rest
+  pub by : (getD rest 0 0 ≡ 0) ⊎ Unknown (getD rest 0 0)
+
+-- no command is left in a rest: it begins so, or stops short of a whole one
 pub data Ending (rest : List ℕ) : Type 0 where
-  end-command : 0 < length rest → getD rest 0 0 ≡ 0 → Ending rest
-  no-command : Unknown (getD rest 0 0) → Ending rest
+  shut : Closed rest → Ending rest
   short : Short rest → Ending rest
 
 module _ (t : Tape) (rest : List ℕ) where
   way-ends : {a : Answer} → Way t rest a → a .next .ended ≡ true → (t .ended ≡ true) ⊎ Ending rest
   way-ends (over e) z = inl e
   way-ends (empty _ e) z = inr (short (nothing-left e))
-  way-ends (closed g e) z = inr (end-command (g .some) e)
-  way-ends (unknown _ u) z = inr (no-command u)
+  way-ends (closed g e) z = inr (shut (record { some = g .some; by = inl e }))
+  way-ends (unknown g u) z = inr (shut (record { some = g .some; by = inr u }))
   way-ends (cut _ k h) z = inr (short (cut-short k h))
   way-ends (refused _ _ _ _ _) z = inl z
   way-ends (set _ _ _ _) z = inl z
@@ -207,8 +211,9 @@ module _ (t : Tape) (rest : List ℕ) where
   way-ends (mixed _ _ _) z = inl z
 
   ending-ends : Ending rest → 0 < length rest → command (getD rest 0 0) t rest .next .ended ≡ true
-  ending-ends (end-command _ e) s = ap (λ (a : Answer). a .next .ended) (command-0 t rest e)
-  ending-ends (no-command u) s = ap (λ (a : Answer). a .next .ended) (command-other t rest (u .not0) (u .not1) (u .not3) (u .not4) (u .not5))
+  ending-ends (shut c) s =
+      ⊎-elim (λ e. ap (λ (a : Answer). a .next .ended) (command-0 t rest e))
+      (λ u. ap (λ (a : Answer). a .next .ended) (command-other t rest (u .not0) (u .not1) (u .not3) (u .not4) (u .not5))) (c .by)
   ending-ends (short (nothing-left e)) s = let f : ⊥ = omega arith in absurd f
   ending-ends (short (cut-short k h)) s = ap (λ (a : Answer). a .next .ended) (cut-command t rest k h)
 

@@ -4,18 +4,18 @@ use mathlib.Core.Path.{_≡_, refl, sym, ap, _∙_, subst}
 use mathlib.Core.Bool.{Bool, true, false, true≢false}
 use mathlib.Core.List.{List, [], _∷_, _++_}
 use mathlib.Core.Logic.{inl, inr, ⊎-elim, _↔_}
-use Prim.Native.Nat.{ℕ, _+_, _-_, _≤_, _<_}
+use Prim.Native.Nat.{ℕ, _+_, _-_, _≤_}
 use native.Mathlib.Omega.{arith}
 use borrow.Author.Tests.{eqb-true, eqb-false}
 use lib.Dec.{eqb}
-use lib.ListN.{length, getD, drop, length-append, length-drop, List·getD-eq-default}
+use lib.ListN.{length, drop, length-append, length-drop}
 use lib.Seq.{drop-append-le, drop-append-add}
 use Rattle.field.specs.Lists.{when}
 use Rattle.tape.specs.declared.Tape.{Tape}
 use Rattle.tape.specs.Steps.{Answer, ended, refuses, step}
 use Rattle.tape.proofs.Bounds.{step-bounded}
 use Rattle.tape.proofs.Ways.{Known, sets, maps, mixes, Unknown}
-use Rattle.tape.proofs.Accepted.{Short, nothing-left, cut-short, short-step, eight-iff, Ending, end-command, no-command, short, ends-iff}
+use Rattle.tape.proofs.Accepted.{Short, nothing-left, cut-short, short-step, eight-iff, Closed, Ending, shut, short, ends-iff}
 use Rattle.tape.proofs.Front.{step-front}
 use Rattle.tape_run.specs.Runs.{tapeSteps, joined, tapeAnswers, lastNumber, lastAnswer, lastRest}
 use Rattle.tape_run.proofs.Runs.{Walked, last, more, tape-walked, walked-once, lastRest-more}
@@ -34,11 +34,6 @@ going-not-eight t rest z e = true≢false (sym (eight-ends t rest e) ∙ z)
 
 -- ---- the last number
 
--- a rest that begins with 00 or an unknown command
-pub data Closed (rest : List ℕ) : Type 0 where
-  by-end : 0 < length rest → getD rest 0 0 ≡ 0 → Closed rest
-  by-unknown : Unknown (getD rest 0 0) → Closed rest
-
 known-some : {c w : ℕ} → Known c w → c ≡ 0 → ⊥
 known-some (sets e _) z = omega arith
 known-some (maps (inl e) _) z = omega arith
@@ -51,12 +46,10 @@ known-unknown (maps (inl e) _) u = u .not3 e
 known-unknown (maps (inr e) _) u = u .not4 e
 known-unknown (mixes e _) u = u .not5 e
 
--- such a rest does not stop short of a command
+-- a rest that begins with 00 or an unknown command does not stop short of a whole one
 short-open : {rest : List ℕ} → Short rest → Closed rest → ⊥
-short-open (nothing-left l) (by-end h _) = omega arith
-short-open {rest} (nothing-left l) (by-unknown u) = u .not0 (List·getD-eq-default rest 0 (omega arith))
-short-open (cut-short k _) (by-end _ e) = known-some k e
-short-open (cut-short k _) (by-unknown u) = known-unknown k u
+short-open (nothing-left l) c = omega (arith, c .some)
+short-open (cut-short k _) c = ⊎-elim (known-some k) (known-unknown k) (c .by)
 
 -- the number so far, after a step
 abbrev after : ℕ → Answer → ℕ
@@ -80,8 +73,7 @@ walked-number k h (last {t} {rest} o e) = (
 )
   where
     open-eight : (Closed rest → ⊥) → Ending rest → step t rest 65 .number ≡ 8
-    open-eight f (end-command l z) = absurd (f (by-end l z))
-    open-eight f (no-command u) = absurd (f (by-unknown u))
+    open-eight f (shut c) = absurd (f c)
     open-eight f (short s) = eight-iff t rest 65 .1 (refl, o, s)
 walked-number k h (more {t} {rest} o e w) =
     rw (lastRest-more (step t rest 65) rest w)
