@@ -18,7 +18,7 @@ use Rattle.tape.specs.Steps.{Answer, step}
 use Rattle.tape.proofs.Cases.{map-size, step-room}
 use Rattle.tape.proofs.Ways.{Known, sets, maps, mixes, Maps, enciphers, deciphers, Way, over, empty, closed, unknown, cut, refused, set, mapped, mixed, way-of}
 
--- one, where it is so
+-- 1 for true, 0 for false
 abbrev pub one-if : Bool → ℕ
 one-if true = 1
 one-if false = 0
