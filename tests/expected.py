@@ -22,6 +22,20 @@ def print_tables():
         yield f"{b:02x} {labyrinth.S[b]:02x} {labyrinth.S_INV[b]:02x} {merged:016x} {labyrinth.cmbn_poly(b):016x}\n"
 
 
+# the turns that document 02 names, by their multiplier
+TURNS = {0x1F: 5, 0x80: 8, 0x00: 0}
+
+
+def products():
+    """Those turns; then a line for each multiplier, with each byte's product by it, and the turns, as many as the multiplier has bits."""
+    for b, turns in TURNS.items():
+        yield f"turns {b:02x} {turns}\n"
+    for b in range(256):
+        for a in range(256):
+            before, behind = "" if a else f"{b:02x}", "\n" if a == 255 else ""
+            yield f"{before} {labyrinth.gf_mul(a, b):02x}{b.bit_length()}{behind}"
+
+
 LARGE = (1 << 64) - 1
 
 
@@ -275,6 +289,7 @@ def tape_steps():
 # name: (the maker of the input, the maker of the output, how many cases)
 PROGRAMS = {
     "print_tables": (None, print_tables, 256),
+    "products": (None, products, 65539),
     "vectors": (vectors_input, vectors, 946),
     "refusals": (refusals_input, refusals, 255),
     "tape_steps": (tape_steps_input, tape_steps, 130),

@@ -4,6 +4,7 @@ ghost use mathlib.Core.Path.{_≡_};
 ghost use Prim.Native.Nat.{_%_};
 ghost use Rattle.field.specs.Words.{byte, rotl};
 ghost use Rattle.field.specs.Field.{timesX, mul};
+ghost use Rattle.arithmetic.specs.BitLength.{bitLength};
 
 // ---- words
 
@@ -34,19 +35,37 @@ fn times_x(a: u8) -> u8
     (a << 1) ^ ((a >> 7) * 0x2D)
 }
 
-// The product of a by the multiplier b.
-pub fn times(a: u8, b: u8) -> u8
-    ensures { λ r. ⌜ r ≡ mul a b ⌝ }
+// The number of a byte's bits up to its highest one, none for 0.
+fn bit_length(b: u8) -> u32
+    ensures { λ r. ⌜ r ≡ bitLength 8 b ⌝ }
 {
-    let mut product = 0u8;
+    8 - u8::leading_zeros(b)
+}
+
+// A product, and how many turns the loop took that made it.
+pub struct Product {
+    pub value: u8,
+    pub turns: u32,
+}
+
+// The product of a by the multiplier b. The loop ends after the highest one of b.
+pub fn times(a: u8, b: u8) -> Product
+    ensures value { λ r. ⌜ r .value ≡ mul a b ⌝ }
+    ensures turns { λ r. ⌜ r .turns ≡ bitLength 8 b ⌝ }
+{
+    let end = bit_length(b);
+    let mut value = 0u8;
     let mut x = a;
     let mut y = b;
-    let mut k = 0usize;
-    while k < 8 {
-        product = product ^ ((y % 2) * x);
+    let mut turns = 0u32;
+    while turns < end {
+        value = value ^ ((y % 2) * x);
         x = times_x(x);
         y = y / 2;
-        k += 1;
+        turns += 1;
     }
-    product
+    Product {
+        value: value,
+        turns: turns,
+    }
 }

@@ -66,7 +66,8 @@ fn dot(row: [u8; 8], w: u64) -> u8
     let mut sum = 0u8;
     let mut j = 0usize;
     while j < 8 {
-        sum = sum ^ arithmetic::times(arithmetic::byte_at(w, j), row[j]);
+        let p = arithmetic::times(arithmetic::byte_at(w, j), row[j]);
+        sum = sum ^ p.value;
         j += 1;
     }
     sum

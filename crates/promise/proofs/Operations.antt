@@ -11,7 +11,7 @@ use Rattle.field.specs.Published.{row}
 use Rattle.modes.specs.Refusals.{cbcRefusal, ctrRefusal, cmacRefusal}
 use Rattle.cmac.specs.declared.Verified.{Verified}
 use Rattle.promise.specs.Demands.{Steps, WorksTape, Expands, Enciphers, Deciphers, SealsCbc, OpensCbc, RunsCtr, ComesBack}
-use Rattle.promise.specs.Requests.{MakesTag, VerifiesTag, GetsYes}
+use Rattle.promise.specs.Requests.{MakesTag, VerifiesTag, GetsYes, Multiplies}
 use Rattle.tape.proofs.step as tape-step
 use Rattle.tape_run.proofs.run as tape-run
 use Rattle.expansion.proofs.expand as expand
@@ -28,6 +28,7 @@ use Rattle.round_trips.proofs.tag_made_and_verified as tag-made-and-verified
 use Rattle.round_trips.proofs.cbc_there_and_back as cbc-there-and-back
 use Rattle.round_trips.proofs.ctr_there_and_back as ctr-there-and-back
 use Rattle.mixing.proofs.mix as mix-word
+use Rattle.arithmetic.proofs.times as times
 
 -- ---- demand 2
 
@@ -113,6 +114,12 @@ module _ (κs : Lfts 2) where
         (λ y. eqb-true r 0 (sym (ap (λ (v : Verified). v .yes) (h .0)) ∙ y), λ p. ap (λ (v : Verified). v .yes) (h .0) ∙ eq-eqb r 0 p),
       )
 
+-- ---- document 02, Job 3
+
+module _ (κs : Lfts 0) where
+  pub multiplies : (a : _) (z : _) (e : _) → times.Reads.Learnt κs a z e → Multiplies (a .0) (a .1 .0) z
+  multiplies a z e h = h
+
 -- ---- every function named here meets its contract
 
 module _ {M : Type 1} where
@@ -163,3 +170,6 @@ module _ {M : Type 1} where
 
   pub mix-met : mix-word.Statement.statement M
   mix-met = mix-word.Met.met
+
+  pub times-met : times.Statement.statement M
+  times-met = times.Met.met

@@ -7,13 +7,16 @@ use mathlib.Core.List.{List, [], _∷_}
 use Prim.Native.Nat.{ℕ, zero, suc, _≤_, _<_}
 use native.Mathlib.Omega.{arith}
 use borrow.Author.Tests.{leb-true, leb-false}
-use lib.Dec.{leb}
+use lib.Dec.{leb, leb→le}
 use lib.ListN.{length, getD, take, replicate}
 use Rattle.field.specs.Lists.{tabulate, xorSum}
 use Rattle.field.specs.Words.{byte, join}
 use Rattle.field.specs.Field.{timesX, shift, mul}
 use Rattle.field.specs.Mixing.{element, matrix, dot, mixBy, mix}
 use Rattle.field.specs.Published.{row}
+use Rattle.field.proofs.Tests.{at}
+use Rattle.arithmetic.specs.BitLength.{bitLength}
+use Rattle.arithmetic.proofs.BitLength.{bitLength-leading, bitLength-iff}
 use Rattle.labyrinth.specs.Blocks.{each, words, bytes}
 use Rattle.labyrinth.specs.Cipher.{article}
 use Rattle.labyrinth.specs.Keys.{E}
@@ -35,7 +38,7 @@ use Rattle.tape.proofs.Accepted.{Closed}
 use Rattle.tape_run.specs.Runs.{steps, tapeSteps, joined, tapeAnswers, lastRest, Ran}
 use Rattle.tape_run.proofs.Runs.{run-whole}
 use Rattle.tape_run.proofs.Endings.{last-eight, eight-trails, eight-once, copy-whole, copy-short}
-use Rattle.promise.specs.Requests.{MasksDoubled, OneRemainder, YesExactly, TagsOfUsedWords, TagNumber, TagNumbers, EmptyRest, EndedState, FiveFirst, ExampleKept, EmptyTape, UnknownCommand, EightTells, OneEight, NothingLost, ShortTold}
+use Rattle.promise.specs.Requests.{MasksDoubled, OneRemainder, YesExactly, TagsOfUsedWords, TagNumber, TagNumbers, EmptyRest, EndedState, FiveFirst, ExampleKept, EmptyTape, UnknownCommand, EightTells, OneEight, NothingLost, ShortTold, ShortCoefficients, EndsAfterHighestOne, TurnsNamed}
 
 -- ---- Job 1
 
@@ -144,3 +147,16 @@ nothing-lost = copy-whole
 
 pub short-told : ShortTold
 short-told = copy-short
+
+-- ---- Job 3
+
+pub short-coefficients : ShortCoefficients
+unfolding row bitLength
+short-coefficients i h = leb→le (bitLength 8 (getD row i 0)) 5 (at 8 (λ i. leb (bitLength 8 (getD row i 0)) 5) tt i h)
+
+pub ends-after-highest-one : EndsAfterHighestOne
+ends-after-highest-one b h = (sym (bitLength-leading 8 b h), bitLength-iff 8 b h)
+
+pub turns-named : TurnsNamed
+unfolding bitLength
+turns-named = (refl, refl, refl)

@@ -4,9 +4,13 @@ use mathlib.Core.Path.{_≡_}
 use mathlib.Core.Bool.{true, false}
 use mathlib.Core.Logic.{_⊎_, _↔_}
 use mathlib.Core.List.{List, [], _∷_, _++_}
-use Prim.Native.Nat.{ℕ, _-_, _*_, _≤_, _<_}
+use Prim.Native.Nat.{ℕ, _-_, _*_, _^_, _≤_, _<_}
+use lib.Count.{leadingZeros}
 use lib.ListN.{length, getD, take, drop, replicate}
-use Rattle.field.specs.Field.{polyMul}
+use Rattle.field.specs.Field.{mul, polyMul}
+use Rattle.field.specs.Published.{row}
+use Rattle.arithmetic.specs.declared.Product.{Product}
+use Rattle.arithmetic.specs.BitLength.{bitLength}
 use Rattle.labyrinth.specs.declared.WorkingKey.{WorkingKey}
 use Rattle.labyrinth.specs.Cipher.{article}
 use Rattle.labyrinth.specs.Keys.{E}
@@ -127,3 +131,22 @@ abbrev pub ShortTold : Type 0
 ShortTold =
     (copy missing : List ℕ) → length (lastRest (copy ++ missing) (tapeSteps (copy ++ missing))) ≤ length missing
     → lastAnswer copy ≡ 8
+
+-- ---- Job 3: field products that stop when done
+
+-- "the published coefficients have at most five bits"
+abbrev pub ShortCoefficients : Type 0
+ShortCoefficients = (i : ℕ) → i < 8 → bitLength 8 (getD row i 0) ≤ 5
+
+-- "let the loop end after the multiplier's highest one, found from its count of leading zeros": of eight bits the leading zeros leave the bit
+-- length, which is at most m exactly when the multiplier is below 2 ^ m
+abbrev pub EndsAfterHighestOne : Type 0
+EndsAfterHighestOne = (b : ℕ) → b < 2 ^ 8 → (bitLength 8 b ≡ 8 - leadingZeros 8 b) × ((m : ℕ) → (bitLength 8 b ≤ m) ↔ (b < 2 ^ m))
+
+-- "The turns, counted in the loop, come back beside the product": for any two bytes. "nothing promised about the product alters": it is `mul`
+abbrev pub Multiplies : ℕ → ℕ → Product → Type 0
+Multiplies a b answer = (answer .value ≡ mul a b) × (answer .turns ≡ bitLength 8 b)
+
+-- "five for 1F, eight for 80, none for 00"
+abbrev pub TurnsNamed : Type 0
+TurnsNamed = (bitLength 8 0x1F ≡ 5) × (bitLength 8 0x80 ≡ 8) × (bitLength 8 0x00 ≡ 0)

@@ -41,9 +41,9 @@ loop-less c = search needs
 
 loop-again : tie.Need-loop-again Inv-loop μ-loop
 loop-again c =
-    let l = c .before .before .before .loop in (
+    let l = c .before .before .before .before .loop in (
       omega arith,
-      xorSum-next (l .j) _ (l .inv .1) (c .times .ensures ∙ ap₂ mul (c .before .byte-at .ensures) refl),
+      xorSum-next (l .j) _ (l .inv .1) (c .before .times .ensures .0 ∙ ap₂ mul (c .before .before .byte-at .ensures) refl),
     )
 
 returns : tie.Need-returns Inv-loop μ-loop
