@@ -33,9 +33,10 @@ compare: lib
 
 bench:
 	rt staticlib bench_blocks
+	rt staticlib labyrinth_c
 	with=; if printf '#include <openssl/evp.h>\nint main(void) { return EVP_aria_128_ctr() == 0; }\n' | gcc -x c -o target/has_openssl - -lcrypto 2>/dev/null; \
 	then with='-DOPENSSL -lcrypto'; fi; \
-	gcc -std=c11 -O3 -Wall -Wextra -o target/bench bench/bench.c bench/labyrinth.c bench/others.c target/staticlib/libbench_blocks.a $$with
+	gcc -std=c11 -O3 -Wall -Wextra -o target/bench bench/bench.c bench/labyrinth.c bench/others.c target/staticlib/libbench_blocks.a target/staticlib/liblabyrinth_c.a $$with
 	target/bench
 
 paper:

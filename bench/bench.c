@@ -1,5 +1,6 @@
 /* Times the proved code against C in several shapes and OpenSSL's Camellia and ARIA at n = 1, 2 and 4: many blocks each by itself, both
-   ways, and runs by CBC and CTR; then tags, runs of all lengths, expansion, and short runs. Always the best of several passes, all in turn.
+   ways, and runs by CBC and CTR; then tags, runs of all lengths, expansion, short runs, and mixing by the matrix. Always the best of several
+   passes, all in turn.
    First C must give the same bytes. Times are of the processor given to the thread, so that other work disturbs them little; short runs go
    by the clock, which is read faster. It assumes Linux on x86-64. */
 #define _POSIX_C_SOURCE 199309L
@@ -18,6 +19,7 @@ uint8_t sigourta_cbc_open(size_t n, const uint64_t words[32], const uint8_t *sta
 uint8_t sigourta_ctr(size_t n, const uint64_t words[32], const uint8_t *start, size_t start_length, uint64_t q, const uint8_t *src, size_t src_length, uint8_t *dst, size_t dst_length);
 uint8_t sigourta_cmac(const uint64_t words[32], const uint8_t *message, size_t length, uint8_t *tag, size_t tag_length);
 uint8_t sigourta_cmac_verify(const uint64_t words[32], const uint8_t *message, size_t length, const uint8_t *tag, size_t tag_length);
+uint64_t labyrinth_mix(uint64_t word);
 
 enum { KINDS = 5, LONG = 1 << 20, LONGEST = 1 << 24 };
 static const char *const KIND[KINDS] = {"enciphering", "deciphering", "CBC sealing", "CBC opening", "CTR"};
@@ -281,6 +283,41 @@ static void short_runs(void) {
     }
 }
 
+/* who mixes a word by the matrix: ours, C with products that end after the multiplier's highest one, and C with eight turns always */
+enum { MIX_US, MIX_ENDED, MIX_WHOLE, MIXERS };
+
+static uint64_t mix_by(int who, uint64_t word) { return who == MIX_US ? labyrinth_mix(word) : lab_mix(who == MIX_WHOLE, word); }
+
+/* C mixes as ours does; 0 if not */
+static int same_mixed(void) {
+    for (int i = 0; i < 10000; i++) {
+        uint64_t word = next_random();
+        for (int who = MIX_ENDED; who < MIXERS; who++)
+            if (mix_by(who, word) != mix_by(MIX_US, word)) {
+                printf("mixing, C's shape %d: DIFFER\n", who - MIX_ENDED);
+                return 0;
+            }
+    }
+    return 1;
+}
+
+/* each word is mixed from the one before */
+static double mix_often(int who) {
+    static uint64_t word = 1;
+    double began = now();
+    for (int i = 0; i < 1000; i++) word = mix_by(who, word);
+    return (now() - began) / 1000;
+}
+
+static void mixing(void) {
+    double best[MIXERS] = {0};
+    for (int pass = 0; pass < 300; pass++)
+        for (int who = 0; who < MIXERS; who++) keep(&best[who], mix_often(who));
+    printf("Mixing a word by the matrix, ours: %.0f ns. C's time / ours: %.2f by products that end after the multiplier's highest one, as ours do, %.2f\n",
+        best[MIX_US], best[MIX_ENDED] / best[MIX_US], best[MIX_WHOLE] / best[MIX_US]);
+    printf("by products of eight turns.\n");
+}
+
 int main(void) {
     for (int i = 0; i < 32; i++) words[i] = next_random();
     for (int i = 0; i < 64; i++) start[i] = (uint8_t)(next_random() >> 32);
@@ -290,12 +327,13 @@ int main(void) {
     for (int kind = 0; kind < KINDS; kind++)
         for (int size = 0; size < 3; size++)
             if (!same_bytes(kind, 1 << size)) return 1;
-    if (!same_tags()) return 1;
+    if (!same_tags() || !same_mixed()) return 1;
     if (others_version() && !(others_work(CAMELLIA) && others_work(ARIA))) return 1;
     ratios();
     tags();
     growth();
     expansion();
     short_runs();
+    mixing();
     return 0;
 }
