@@ -283,39 +283,33 @@ static void short_runs(void) {
     }
 }
 
-/* who mixes a word by the matrix: ours, C with products that end after the multiplier's highest one, and C with eight turns always */
-enum { MIX_US, MIX_ENDED, MIX_WHOLE, MIXERS };
-
-static uint64_t mix_by(int who, uint64_t word) { return who == MIX_US ? labyrinth_mix(word) : lab_mix(who == MIX_WHOLE, word); }
-
 /* C mixes as ours does; 0 if not */
 static int same_mixed(void) {
     for (int i = 0; i < 10000; i++) {
         uint64_t word = next_random();
-        for (int who = MIX_ENDED; who < MIXERS; who++)
-            if (mix_by(who, word) != mix_by(MIX_US, word)) {
-                printf("mixing, C's shape %d: DIFFER\n", who - MIX_ENDED);
-                return 0;
-            }
+        if (lab_mix(word) != labyrinth_mix(word)) {
+            printf("mixing: DIFFER\n");
+            return 0;
+        }
     }
     return 1;
 }
 
-/* each word is mixed from the one before */
-static double mix_often(int who) {
+/* ns for a word, each mixed from the one before */
+static double mix_often(uint64_t (*mix)(uint64_t)) {
     static uint64_t word = 1;
     double began = now();
-    for (int i = 0; i < 1000; i++) word = mix_by(who, word);
+    for (int i = 0; i < 1000; i++) word = mix(word);
     return (now() - began) / 1000;
 }
 
 static void mixing(void) {
-    double best[MIXERS] = {0};
-    for (int pass = 0; pass < 300; pass++)
-        for (int who = 0; who < MIXERS; who++) keep(&best[who], mix_often(who));
-    printf("Mixing a word by the matrix, ours: %.0f ns. C's time / ours: %.2f by products that end after the multiplier's highest one, as ours do, %.2f\n",
-        best[MIX_US], best[MIX_ENDED] / best[MIX_US], best[MIX_WHOLE] / best[MIX_US]);
-    printf("by products of eight turns.\n");
+    double us = 0, c = 0;
+    for (int pass = 0; pass < 300; pass++) {
+        keep(&us, mix_often(labyrinth_mix));
+        keep(&c, mix_often(lab_mix));
+    }
+    printf("Mixing a word by the matrix, ours: %.0f ns. C's time by the same loops / ours: %.2f.\n", us, c / us);
 }
 
 int main(void) {

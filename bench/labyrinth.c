@@ -235,8 +235,8 @@ void lab_tag(enum lab_shape shape, const uint64_t *k, const uint8_t *message, si
 
 static const uint8_t G[8] = {0x01, 0x01, 0x03, 0x0F, 0x0A, 0x1F, 0x0F, 0x0C};
 
-INLINE uint8_t times(int whole, uint8_t a, uint8_t b) {
-    int end = whole ? 8 : b ? 32 - __builtin_clz(b) : 0;
+INLINE uint8_t times(uint8_t a, uint8_t b) {
+    int end = b ? 32 - __builtin_clz(b) : 0;
     uint8_t value = 0;
     for (int turns = 0; turns < end; turns++) {
         value ^= (uint8_t)((b & 1) * a);
@@ -246,14 +246,12 @@ INLINE uint8_t times(int whole, uint8_t a, uint8_t b) {
     return value;
 }
 
-INLINE uint64_t mix(int whole, uint64_t w) {
+uint64_t lab_mix(uint64_t w) {
     uint64_t mixed = 0;
     for (int i = 0; i < 8; i++) {
         uint8_t sum = 0;
-        for (int j = 0; j < 8; j++) sum ^= times(whole, (uint8_t)(w >> 8 * j), G[(i + 8 - j) % 8]);
+        for (int j = 0; j < 8; j++) sum ^= times((uint8_t)(w >> 8 * j), G[(i + 8 - j) % 8]);
         mixed |= (uint64_t)sum << 8 * i;
     }
     return mixed;
 }
-
-uint64_t lab_mix(int whole, uint64_t w) { return whole ? mix(1, w) : mix(0, w); }

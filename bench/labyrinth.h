@@ -14,5 +14,5 @@ void lab_schedule(int n, const uint64_t *w, int back, uint64_t *k);
 void lab_run(enum lab_shape shape, enum lab_kind kind, int n, const uint64_t *k, const uint8_t *start, const uint8_t *src, uint8_t *dst, size_t blocks);
 /* CMAC of a message at n = 1, block by block, by one table or by eight */
 void lab_tag(enum lab_shape shape, const uint64_t *k, const uint8_t *message, size_t length, uint8_t tag[16]);
-/* mixing by the matrix; the loop of a product ends after the multiplier's highest one or, with whole, after eight turns */
-uint64_t lab_mix(int whole, uint64_t w);
+/* mixing by the matrix; the loop of a product ends after the multiplier's highest one */
+uint64_t lab_mix(uint64_t w);

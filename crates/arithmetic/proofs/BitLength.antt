@@ -11,7 +11,6 @@ use lib.Bits.{bitXor, xor-zero-r}
 use lib.Count.{leadingZeros, leading-unique}
 use lib.Pow.{pow-pos, pow-mono}
 use Rattle.field.specs.Lists.{when, xorSum}
-use Rattle.field.specs.Field.{mul, shift}
 use Rattle.field.proofs.Xor.{Digit, off, on, parity}
 use Rattle.arithmetic.specs.BitLength.{bitLength}
 
@@ -31,7 +30,7 @@ bitLength-le zero b = omega arith
 bitLength-le (suc k) b = next-bit (λ m. m ≤ suc k) k b (λ e. omega arith) (λ e. omega (arith, bitLength-le k b))
 
 -- a number is below 2 ^ its bit length
-pub bitLength-lt : (n b : ℕ) → b < 2 ^ n → b < 2 ^ bitLength n b
+bitLength-lt : (n b : ℕ) → b < 2 ^ n → b < 2 ^ bitLength n b
 unfolding bitLength
 bitLength-lt zero b h = h
 bitLength-lt (suc k) b h =
@@ -40,7 +39,7 @@ bitLength-lt (suc k) b h =
     (λ e. let z : b / 2 ^ k < 1 = omega arith in bitLength-lt k b (omega (arith, div-lt-iff-lt-mul (pow-pos k) .0 z)))
 
 -- and not below half of that
-pub bitLength-top : (n b : ℕ) → 2 ^ bitLength n b ≤ 2 * b + 1
+bitLength-top : (n b : ℕ) → 2 ^ bitLength n b ≤ 2 * b + 1
 unfolding bitLength
 bitLength-top zero b = omega arith
 bitLength-top (suc k) b = next-bit (λ m. 2 ^ m ≤ 2 * b + 1) k b
