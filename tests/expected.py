@@ -1,6 +1,6 @@
 #!/usr/bin/env python3
-"""Writes what a program of ours reads and must print, made from the archivists' program and vectors alone, and for refusals from
-the papers' numbers.
+"""Writes what a program of ours reads and must print, made from the archivists' program and vectors alone, and for refusals and
+turns from the papers' numbers.
 
     tests/expected.py --all DIR     for each program NAME its input, if it has one, to DIR/NAME.stdin and its output to DIR/NAME.stdout
     tests/expected.py --list        NAME and the count of its cases, a line each

@@ -4,7 +4,7 @@ use Prim.Native.Nat.{ℕ, zero, suc, _/_, _%_, _^_}
 use lib.Dec.{eqb}
 use Rattle.field.specs.Lists.{when}
 
--- of the n low bits of b, bit k being b / 2 ^ k % 2: one more than the place of the highest that is 1, and 0 where none is
+-- of the n low bits of b, bit k, counted from 0, being b / 2 ^ k % 2: one more than the place of the highest that is 1, and 0 where none is
 unfoldable pub bitLength : ℕ → ℕ → ℕ
 bitLength zero b = 0
 bitLength (suc k) b = when (eqb (b / 2 ^ k % 2) 1) (suc k) (bitLength k b)

@@ -143,7 +143,8 @@ ShortCoefficients = (i : ℕ) → i < 8 → bitLength 8 (getD row i 0) ≤ 5
 abbrev pub EndsAfterHighestOne : Type 0
 EndsAfterHighestOne = (b : ℕ) → b < 2 ^ 8 → (bitLength 8 b ≡ 8 - leadingZeros 8 b) × ((m : ℕ) → (bitLength 8 b ≤ m) ↔ (b < 2 ^ m))
 
--- "The turns, counted in the loop, come back beside the product": for any two bytes. "nothing promised about the product alters": it is `mul`
+-- "The turns, counted in the loop, come back beside the product": for any two bytes. "Callers answer as before, and nothing promised about the
+-- product alters": it is `mul`, and mixing is `mix row`, as in Demands
 abbrev pub Multiplies : ℕ → ℕ → Product → Type 0
 Multiplies a b answer = (answer .value ≡ mul a b) × (answer .turns ≡ bitLength 8 b)
 
