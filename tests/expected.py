@@ -5,7 +5,10 @@ turns from the papers' numbers.
     tests/expected.py --all DIR     for each program NAME its input, if it has one, to DIR/NAME.stdin and its output to DIR/NAME.stdout
     tests/expected.py --list        NAME and the count of its cases, a line each
 """
+import functools
+import hashlib
 import json
+import operator
 import os
 import sys
 
@@ -37,6 +40,54 @@ def products():
 
 
 LARGE = (1 << 64) - 1
+
+# rows: 01 and seven 00; the published row; the zero row; one that XORs to zero without being zero
+ROWS = [bytes([1]).ljust(8, b"\0"), bytes(labyrinth.G), bytes(8), bytes(range(8))]
+WORDS = [0, 1, 0x100, 1 << 63, 0x80, 0x0101010101010101, 0x0123456789ABCDEF, LARGE]
+ROOMS = [0, 1, 255, 256, 257]
+
+
+def random_rows():
+    """10,000 rows, each with a word."""
+    data = hashlib.shake_256(b"rows and words").digest(16 * 10000)
+    for at in range(0, len(data), 16):
+        yield data[at : at + 8], int.from_bytes(data[at + 8 : at + 16], "little")
+
+
+def rows_to_mix():
+    return [*((row, word) for row in ROWS for word in WORDS), *random_rows()]
+
+
+def rows_to_tabulate():
+    return [*((row, room) for row in ROWS for room in ROOMS), *((row, 256) for row, _ in list(random_rows())[:12])]
+
+
+def row_vectors_input():
+    """Cases of 17 bytes: the kind (0 mixes, 1 makes a table), the row, and the word or the count of the buffer's words, lowest byte first."""
+    for kind, cases in enumerate((rows_to_mix(), rows_to_tabulate())):
+        for row, more in cases:
+            yield bytes([kind]) + row + more.to_bytes(8, "little")
+
+
+def mixed_by(row, word):
+    """By the archivists' program with another row in the published one's place."""
+    published, labyrinth.G = labyrinth.G, list(row)
+    try:
+        return labyrinth.cmbn_poly(word)
+    finally:
+        labyrinth.G = published
+
+
+def row_vectors():
+    """Document 02, Job 4: 13 for a row that XORs to zero, and the zero word, or the buffer as it was; then 5 for a buffer that isn't 256 words."""
+    for row, word in rows_to_mix():
+        refused = functools.reduce(operator.xor, row) == 0
+        yield f"mix {13 if refused else 0} {0 if refused else mixed_by(row, word):016x}\n"
+    for row, room in rows_to_tabulate():
+        number = 13 if functools.reduce(operator.xor, row) == 0 else 5 if room != 256 else 0
+        before = (0x5A5A5A5A5A5A0000 + i for i in range(room))
+        made = before if number else (mixed_by(row, labyrinth.S[b]) for b in range(256))
+        yield f"table {number}" + "".join(f" {word:016x}" for word in made) + "\n"
 
 
 def found(kind, count):
@@ -290,6 +341,7 @@ def tape_steps():
 PROGRAMS = {
     "print_tables": (None, print_tables, 256),
     "products": (None, products, 65539),
+    "row_vectors": (row_vectors_input, row_vectors, 10064),
     "vectors": (vectors_input, vectors, 946),
     "refusals": (refusals_input, refusals, 255),
     "tape_steps": (tape_steps_input, tape_steps, 130),

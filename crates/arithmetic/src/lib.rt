@@ -2,8 +2,9 @@
 
 ghost use mathlib.Core.Path.{_≡_};
 ghost use Prim.Native.Nat.{_%_};
-ghost use Rattle.field.specs.Words.{byte, rotl};
+ghost use Rattle.field.specs.Words.{byte, rotl, eachByte};
 ghost use Rattle.field.specs.Field.{timesX, mul};
+ghost use Rattle.field.specs.Mixing.{scale};
 ghost use Rattle.arithmetic.specs.BitLength.{bitLength};
 
 // ---- words
@@ -68,4 +69,32 @@ pub fn times(a: u8, b: u8) -> Product
         value: value,
         turns: turns,
     }
+}
+
+// ---- every byte of a word at once
+
+// Every byte of a word times x.
+fn times_x_each(w: u64) -> u64
+    ensures { λ r. ⌜ r ≡ eachByte timesX w ⌝ }
+{
+    let h = (w >> 7) & 0x0101010101010101;
+    ((w & 0x7F7F7F7F7F7F7F7F) << 1) ^ h ^ (h << 2) ^ (h << 3) ^ (h << 5)
+}
+
+// Every byte of a word multiplied by c. The loop ends after the highest one of c.
+pub fn times_each(w: u64, c: u8) -> u64
+    ensures { λ r. ⌜ r ≡ scale c w ⌝ }
+{
+    let end = bit_length(c);
+    let mut value = 0u64;
+    let mut x = w;
+    let mut y = c;
+    let mut turns = 0u32;
+    while turns < end {
+        value = value ^ ((y % 2) as u64 * x);
+        x = times_x_each(x);
+        y = y / 2;
+        turns += 1;
+    }
+    value
 }

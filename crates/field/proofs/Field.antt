@@ -84,7 +84,7 @@ unfolding mul
 mul-low-r a b =
     xorSum-cong 8 (λ k. b / 2 ^ k % 2 * shift a k) (λ k. b % 2 ^ 8 / 2 ^ k % 2 * shift a k) (λ k l. ap (λ (x : ℕ). x * shift a k) (bit-low b k l))
 
-pub digit-lt : {d : ℕ} → Digit d → (a : ℕ) → a < 2 ^ 8 → d * a < 2 ^ 8
+pub digit-lt : {d m : ℕ} → Digit d → (a : ℕ) → a < m → d * a < m
 digit-lt off a h = omega arith
 digit-lt on a h = omega arith
 

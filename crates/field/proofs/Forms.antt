@@ -7,13 +7,15 @@ use native.Mathlib.Nat.{div-eq-of-lt, mod-eq-of-lt, le-trans, eq-zero-or-pos, mu
 use native.Mathlib.Numerals.{add-one}
 use native.Mathlib.Omega.{arith}
 use lib.Arith.{digits-lt}
-use lib.Bits.{bitXor, bitOr, or-self, or-shifted}
+use lib.Bits.{bitXor, bitOr, bitAnd, or-self, or-shifted, xor-shr, xor-mod}
 use lib.Pow.{pow-add, pow-mono, shr-shr, shl-exact}
 use Rattle.field.specs.Lists.{xorSum}
-use Rattle.field.specs.Words.{byte, join, rotl}
+use Rattle.field.specs.Words.{byte, join, rotl, eachByte}
 use Rattle.field.specs.Field.{timesX, shift}
+use Rattle.field.proofs.Xor.{Additive, xor-shl, after-xor, both-xor, and-xor, by-basis}
 use Rattle.field.proofs.Tests.{agree}
-use Rattle.field.proofs.Words.{rotl-or, rotl-zero}
+use Rattle.field.proofs.Words.{rotl-or, rotl-zero, each-xor}
+use Rattle.field.proofs.Field.{timesX-xor, timesX-lt}
 
 -- past the eight bytes of a word there is nothing
 pub byte-past : (w i : ℕ) → w < 2 ^ 64 → 8 ≤ i → 0 ≡ byte w i
@@ -34,6 +36,48 @@ rotl-code w s h hw =
 -- (a << 1) ^ ((a >> 7) * 0x2D): what 12D would take away at x^8 the shift of a byte drops
 pub timesX-code : (a : ℕ) → a < 2 ^ 8 → bitXor (a * 2 % 2 ^ 8) (a / 2 ^ 7 * 0x2D) ≡ timesX a
 timesX-code = agree 256 (λ a. bitXor (a * 2 % 2 ^ 8) (a / 2 ^ 7 * 0x2D)) timesX (unfold timesX in tt)
+
+-- the same at each byte of a word: ((w & 7F..7F) << 1) ^ h ^ (h << 2) ^ (h << 3) ^ (h << 5), h being the bytes' highest bits, (w >> 7) & 01..01
+abbrev up : ℕ → ℕ → ℕ
+up k x = x * 2 ^ k % 2 ^ 64
+
+abbrev highest : ℕ → ℕ
+highest w = bitAnd (w / 2 ^ 7) 0x0101010101010101
+
+abbrev lowest : ℕ → ℕ
+lowest w = up 1 (bitAnd w 0x7F7F7F7F7F7F7F7F)
+
+abbrev pub timesXEach : ℕ → ℕ
+timesXEach w = bitXor (bitXor (bitXor (bitXor (lowest w) (highest w)) (up 2 (highest w))) (up 3 (highest w))) (up 5 (highest w))
+
+timesXEach-xor : Additive timesXEach
+timesXEach-xor = both-xor three (λ w. up 5 (highest w)) (both-xor two (λ w. up 3 (highest w)) (both-xor one (λ w. up 2 (highest w)) (both-xor lowest highest lowest-xor highest-xor) (above 2)) (above 3)) (above 5)
+  where
+    one : ℕ → ℕ
+    one w = bitXor (lowest w) (highest w)
+
+    two : ℕ → ℕ
+    two w = bitXor (one w) (up 2 (highest w))
+
+    three : ℕ → ℕ
+    three w = bitXor (two w) (up 3 (highest w))
+
+    up-xor : (k : ℕ) → Additive (up k)
+    up-xor k a b = ap (λ (x : ℕ). x % 2 ^ 64) (xor-shl a b k) ∙ xor-mod (a * 2 ^ k) (b * 2 ^ k) 64
+
+    highest-xor : Additive highest
+    highest-xor = after-xor (λ x. bitAnd x 0x0101010101010101) (λ w. w / 2 ^ 7) (and-xor 0x0101010101010101) (λ a b. xor-shr a b 7)
+
+    lowest-xor : Additive lowest
+    lowest-xor = after-xor (up 1) (λ w. bitAnd w 0x7F7F7F7F7F7F7F7F) (up-xor 1) (and-xor 0x7F7F7F7F7F7F7F7F)
+
+    above : (k : ℕ) → Additive (λ w. up k (highest w))
+    above k = after-xor (up k) highest (up-xor k) highest-xor
+
+pub timesXEach-code : (w : ℕ) → w < 2 ^ 64 → timesXEach w ≡ eachByte timesX w
+timesXEach-code =
+    by-basis timesXEach (eachByte timesX) timesXEach-xor (each-xor timesX (λ x l. timesX-lt x) timesX-xor) 64
+    (agree 64 (λ k. timesXEach (2 ^ k)) (λ k. eachByte timesX (2 ^ k)) (unfold eachByte join byte timesX in tt))
 
 -- one place more, as a loop has it
 pub shift-next : (a k : ℕ) {x : ℕ} → x ≡ timesX (shift a k) → x ≡ shift a (k + 1)

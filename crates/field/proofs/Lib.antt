@@ -6,6 +6,7 @@ pub mod Words
 pub mod Field
 pub mod Remainder
 pub mod Degree
+pub mod Scale
 pub mod Mixing
 pub mod Eight
 pub mod Substitution

@@ -3,18 +3,21 @@
 use mathlib.Core.Path.{_≡_, refl, sym, ap, ap₂, _∙_}
 use mathlib.Core.List.{List, [], _∷_}
 use Prim.Native.Nat.{ℕ, zero, suc, _+_, _-_, _*_, _/_, _%_, _^_, _≤_, _<_}
+use native.Mathlib.Nat.{div-eq-of-lt, le-trans}
 use native.Mathlib.Omega.{arith}
 use lib.ListN.{getD}
+use lib.Pow.{pow-mono}
 use Rattle.field.specs.Lists.{xorSum}
 use Rattle.field.specs.Words.{byte, join, rotl, eachByte}
 use Rattle.field.specs.Field.{mul}
 use Rattle.field.specs.Substitution.{sub}
-use Rattle.field.specs.Mixing.{LCM, mix}
+use Rattle.field.specs.Mixing.{LCM, mix, scale}
 use Rattle.field.specs.Merged.{entry, merged, lookup}
 use Rattle.field.proofs.Lists.{getD-tabulate}
-use Rattle.field.proofs.Field.{mul-lt}
-use Rattle.field.proofs.Sums.{xorSum-cong, xorSum-lt, into}
+use Rattle.field.proofs.Field.{mul-lt, zero-mul, one-mul, mul-comm, mul-assoc}
+use Rattle.field.proofs.Sums.{xorSum-cong, xorSum-lt, xorSum-only, into}
 use Rattle.field.proofs.Words.{byte-lt, byte-xor, join-lt, byte-join, word-ext, rotl-lt, byte-rotl, OnBytes, byte-each}
+use Rattle.field.proofs.Scale.{scale-lt, byte-scale}
 use Rattle.field.proofs.Mixing.{conv, byte-mix, mix-lt}
 
 pub LCM-lt : (g : List ℕ) (x : ℕ) → LCM g x < 2 ^ 64
@@ -37,6 +40,28 @@ mix-rotated g w =
   where
     place : ℕ → ℕ
     place j = rotl (LCM g (byte w j)) (8 * j)
+
+-- a byte by itself is mixed to its product by the row
+pub mix-byte : (g : List ℕ) (x : ℕ) → x < 2 ^ 8 → mix g x ≡ LCM g x
+unfolding conv byte
+mix-byte g x h =
+    word-ext (mix g x) (LCM g x) (mix-lt g x) (LCM-lt g x)
+    (λ i l. byte-mix g x i l
+    ∙ xorSum-only 8 (λ j. mul (byte x j) (getD g ((i + 8 - j) % 8) 0)) 0 (omega arith)
+    (λ j m q. ap (λ (b : ℕ). mul b (getD g ((i + 8 - j) % 8) 0)) (ap (λ (y : ℕ). y % 2 ^ 8) (nothing-above j (omega arith))) ∙ zero-mul (getD g ((i + 8 - j) % 8) 0))
+    ∙ ap₂ (λ (b k : ℕ). mul b (getD g k 0)) (omega arith) (omega arith)
+    ∙ sym (byte-LCM g x i l))
+  where
+    nothing-above : (j : ℕ) → 0 < j → x / 2 ^ (8 * j) ≡ 0
+    nothing-above j p = let e : 8 ≤ 8 * j = omega arith in div-eq-of-lt (le-trans h (pow-mono e))
+
+-- so a byte's product by the row is the row, as the word that 1 is mixed to, multiplied by that byte
+pub LCM-scale : (g : List ℕ) (x : ℕ) → LCM g x ≡ scale x (mix g 1)
+LCM-scale g x =
+    word-ext (LCM g x) (scale x (mix g 1)) (LCM-lt g x) (scale-lt x (mix g 1))
+    (λ i l. byte-LCM g x i l ∙ mul-comm x (getD g i 0)
+    ∙ sym (byte-scale x (mix g 1) i l ∙ ap (λ (b : ℕ). mul b x) (ap (λ (w : ℕ). byte w i) (mix-byte g 1 (omega arith)) ∙ byte-LCM g 1 i l)
+    ∙ mul-assoc 1 (getD g i 0) x ∙ one-mul (mul (getD g i 0) x) (mul-lt (getD g i 0) x)))
 
 -- the rule: the table's word for b is S(b) multiplied by the row
 pub lookup-mix : (g s t : List ℕ) → OnBytes (sub s) → ((b : ℕ) → b < 2 ^ 8 → getD t b 0 ≡ entry g s b) → (w : ℕ)

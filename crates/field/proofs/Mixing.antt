@@ -13,12 +13,13 @@ use lib.Bits.{bitXor, xor-lt}
 use Rattle.field.specs.Lists.{tabulate, xorSum, pick}
 use Rattle.field.specs.Words.{byte, join, rotl}
 use Rattle.field.specs.Field.{mul}
-use Rattle.field.specs.Mixing.{LCM, element, matrix, dot, mixBy, mix, product}
+use Rattle.field.specs.Mixing.{LCM, element, matrix, dot, mixBy, mix, product, scale}
 use Rattle.field.proofs.Xor.{Additive}
 use Rattle.field.proofs.Lists.{getD-tabulate, tabulate-cong}
 use Rattle.field.proofs.Field.{mul-xor-l, mul-xor-r, mul-assoc, mul-comm, mul-lt}
 use Rattle.field.proofs.Sums.{xorSum-cong, xorSum-lt, into, xorSum-xor, xorSum-swap, xorSum-only, cycle}
 use Rattle.field.proofs.Words.{byte-lt, byte-xor, join-lt, byte-join, join-cong, word-ext, rotl-lt, byte-rotl}
+use Rattle.field.proofs.Scale.{scale-lt, byte-scale}
 
 -- the cyclic product of two functions of the numbers below 8
 unfoldable pub conv : (ℕ → ℕ) → (ℕ → ℕ) → ℕ → ℕ
@@ -57,13 +58,32 @@ byte-mix g w i l =
 
 -- ---- 4.3: the mixed word's bytes are the word's bytes times the row, modulo x^8 + 1
 
-pub product-conv : (g h : List ℕ) → product g h ≡ tabulate 8 (conv (λ j. getD g j 0) (λ k. getD h k 0))
-unfolding product conv pick
-product-conv g h =
-    tabulate-cong 8 _ _ (λ i l. xorSum-cong 8 _ (λ j. mul (getD g j 0) (getD h ((i + 8 - j) % 8) 0)) (λ j m.
-    xorSum-only 8 (λ k. pick (eqb ((j + k) % 8) i) (mul (getD g j 0) (getD h k 0))) ((i + 8 - j) % 8) (omega arith)
+-- 4.3's sum, over the exponents of both factors
+abbrev exponents : (ℕ → ℕ) → (ℕ → ℕ) → ℕ → ℕ
+exponents x y i = xorSum 8 (λ j. xorSum 8 (λ k. pick (eqb ((j + k) % 8) i) (mul (x j) (y k))))
+
+exponents-conv : (x y : ℕ → ℕ) (i : ℕ) → i < 8 → exponents x y i ≡ conv x y i
+unfolding conv pick
+exponents-conv x y i l =
+    xorSum-cong 8 _ (λ j. mul (x j) (y ((i + 8 - j) % 8))) (λ j m.
+    xorSum-only 8 (λ k. pick (eqb ((j + k) % 8) i) (mul (x j) (y k))) ((i + 8 - j) % 8) (omega arith)
     (λ k n q. rw (ne-eqb ((j + k) % 8) i (λ (p : (j + k) % 8 ≡ i). q (omega arith))))
-    ∙ rw (eq-eqb ((j + (i + 8 - j) % 8) % 8) i (omega arith))))
+    ∙ rw (eq-eqb ((j + (i + 8 - j) % 8) % 8) i (omega arith)))
+
+exponents-comm : (x y : ℕ → ℕ) (i : ℕ) → exponents x y i ≡ exponents y x i
+exponents-comm x y i =
+    xorSum-swap 8 8 (λ j k. pick (eqb ((j + k) % 8) i) (mul (x j) (y k)))
+    ∙ xorSum-cong 8 _ (λ k. xorSum 8 (λ j. pick (eqb ((k + j) % 8) i) (mul (y k) (x j)))) (λ k m.
+    xorSum-cong 8 _ (λ j. pick (eqb ((k + j) % 8) i) (mul (y k) (x j))) (λ j n.
+    ap₂ (λ (s p : ℕ). pick (eqb (s % 8) i) p) (add-comm j k) (mul-comm (x j) (y k))))
+
+-- the order of the factors doesn't matter
+pub conv-comm : (x y : ℕ → ℕ) (i : ℕ) → i < 8 → conv x y i ≡ conv y x i
+conv-comm x y i l = sym (exponents-conv x y i l) ∙ exponents-comm x y i ∙ exponents-conv y x i l
+
+pub product-conv : (g h : List ℕ) → product g h ≡ tabulate 8 (conv (λ j. getD g j 0) (λ k. getD h k 0))
+unfolding product
+product-conv g h = tabulate-cong 8 _ (conv (λ j. getD g j 0) (λ k. getD h k 0)) (exponents-conv (λ j. getD g j 0) (λ k. getD h k 0))
 
 pub getD-product : (g h : List ℕ) (i : ℕ) → i < 8 → getD (product g h) i 0 ≡ conv (λ j. getD g j 0) (λ k. getD h k 0) i
 getD-product g h i l = ap (λ (r : List ℕ). getD r i 0) (product-conv g h) ∙ getD-tabulate 8 (conv (λ j. getD g j 0) (λ k. getD h k 0)) 0 i l
@@ -76,6 +96,23 @@ mix-product g w =
   where
     g′ : ℕ → ℕ
     g′ k = getD g k 0
+
+-- coefficient by coefficient: the XOR of the word's products by them, each rotated to its coefficient's place
+pub mix-coefficients : (g : List ℕ) (w : ℕ) → mix g w ≡ xorSum 8 (λ k. rotl (scale (getD g k 0) w) (8 * k))
+unfolding conv
+mix-coefficients g w =
+    word-ext (mix g w) (xorSum 8 place) (mix-lt g w) (xorSum-lt 64 8 place (λ k l. rotl-lt (scale (g′ k) w) (8 * k) (omega arith) (scale-lt (g′ k) w)))
+    (λ i l. byte-mix g w i l ∙ conv-comm (byte w) g′ i l
+    ∙ sym (into (λ x. byte x i) (byte-xor i) 8 place
+    ∙ xorSum-cong 8 (λ k. byte (place k) i) (λ k. mul (g′ k) (byte w ((i + 8 - k) % 8)))
+    (λ k m. byte-rotl (scale (g′ k) w) k i (scale-lt (g′ k) w) (omega arith) l ∙ byte-scale (g′ k) w ((i + 8 - k) % 8) (omega arith)
+    ∙ mul-comm (byte w ((i + 8 - k) % 8)) (g′ k))))
+  where
+    g′ : ℕ → ℕ
+    g′ k = getD g k 0
+
+    place : ℕ → ℕ
+    place k = rotl (scale (g′ k) w) (8 * k)
 
 -- ---- XOR
 

@@ -190,6 +190,12 @@ module _ (f : ℕ → ℕ) (onBytes : OnBytes f) where
       (λ i l. byte-each (rotl w (8 * k)) i l ∙ ap f (byte-rotl w k i hw hk l)
       ∙ sym (byte-rotl (eachByte f w) k i (each-lt w) hk l ∙ byte-each w ((i + 8 - k) % 8) (omega arith)))
 
+  pub each-xor : Additive f → Additive (eachByte f)
+  each-xor h a b =
+      word-ext (eachByte f (bitXor a b)) (bitXor (eachByte f a) (eachByte f b)) (each-lt (bitXor a b)) (xor-lt 64 (eachByte f a) (eachByte f b) (each-lt a) (each-lt b))
+      (λ k l. byte-each (bitXor a b) k l ∙ ap f (byte-xor k a b) ∙ h (byte a k) (byte b k)
+      ∙ sym (byte-xor k (eachByte f a) (eachByte f b) ∙ ap₂ bitXor (byte-each a k l) (byte-each b k l)))
+
 pub each-cong : (f g : ℕ → ℕ) → ((x : ℕ) → x < 2 ^ 8 → f x ≡ g x) → (w : ℕ) → eachByte f w ≡ eachByte g w
 unfolding eachByte
 each-cong f g e w = join-cong 8 (λ i. f (byte w i)) (λ i. g (byte w i)) (λ i l. e (byte w i) (byte-lt w i))

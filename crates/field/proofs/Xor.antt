@@ -1,14 +1,14 @@
 -- Laws of XOR that the library lacks, and additive maps: those that take an XOR to the XOR.
 -- Assumes nothing.
 use mathlib.Core.Path.{_≡_, refl, sym, ap, ap₂, _∙_, subst}
-use Prim.Native.Nat.{ℕ, zero, suc, _+_, _*_, _/_, _%_, _^_, _≤_, _<_}
+use Prim.Native.Nat.{ℕ, zero, suc, _+_, _*_, _/_, _%_, _^_, _≤_, _<_, min}
 use native.Mathlib.Nat.{mod-lt, mod-mod, add-zero, zero-mul, one-mul, mul-one, add-comm}
 use native.Mathlib.Numerals.{add-one}
 use lib.Pow.{pow-pos, split, shr-lt}
 use lib.Arith.{lt-one}
 use native.Mathlib.Omega.{arith}
 use lib.Arith.{bin-ind}
-use lib.Bits.{bitXor, differ, xor-step, xor-comm, xor-self, xor-zero-r, xor-zero-l, xor-shr, xor-mod, xor-lt, xor-block, xor-shifted}
+use lib.Bits.{bitXor, bitAnd, differ, and-step, and-shr, and-mod, xor-step, xor-comm, xor-self, xor-zero-r, xor-zero-l, xor-shr, xor-mod, xor-lt, xor-block, xor-shifted}
 
 -- a digit is 0 or 1
 pub data Digit : ℕ → Type 0 where
@@ -76,6 +76,37 @@ digit-times on a b = simp one-mul
 
 abbrev pub Additive : (ℕ → ℕ) → Type 0
 Additive f = (a b : ℕ) → f (bitXor a b) ≡ bitXor (f a) (f b)
+
+-- one after another, and the XOR of two
+pub after-xor : (f g : ℕ → ℕ) → Additive f → Additive g → Additive (λ a. f (g a))
+after-xor f g hf hg a b = ap f (hg a b) ∙ hf (g a) (g b)
+
+pub both-xor : (f g : ℕ → ℕ) → Additive f → Additive g → Additive (λ a. bitXor (f a) (g a))
+both-xor f g hf hg a b = ap₂ bitXor (hf a b) (hg a b) ∙ simp xors
+
+-- AND with a mask
+and-digit : {x y m : ℕ} → Digit x → Digit y → Digit m → min (bitXor x y) m ≡ differ (bitAnd x m) (bitAnd y m)
+and-digit off off off = refl
+and-digit off off on = refl
+and-digit off on off = refl
+and-digit off on on = refl
+and-digit on off off = refl
+and-digit on off on = refl
+and-digit on on off = refl
+and-digit on on on = refl
+
+pub and-xor : (m : ℕ) → Additive (λ a. bitAnd a m)
+and-xor m a b = go a b m
+  where
+    go : (a b m : ℕ) → bitAnd (bitXor a b) m ≡ bitXor (bitAnd a m) (bitAnd b m)
+    go =
+        bin-ind (λ (n : ℕ). (b m : ℕ) → bitAnd (bitXor n b) m ≡ bitXor (bitAnd n m) (bitAnd b m)) (λ b m. refl)
+        (λ n ih b m. and-step (bitXor n b) m
+        ∙ ap₂ (λ (x y : ℕ). bitAnd x (m / 2) * 2 + min y (m % 2)) (xor-shr n b 1) (xor-mod n b 1)
+        ∙ ap₂ (λ (x y : ℕ). x * 2 + y) (ih (b / 2) (m / 2)) (and-digit (parity n) (parity b) (parity m))
+        ∙ sym (ap₂ (λ (x y : ℕ). bitXor x y * 2 + differ (bitAnd n m % 2) (bitAnd b m % 2)) (and-shr n m 1) (and-shr b m 1)
+        ∙ ap₂ (λ (x y : ℕ). bitXor (bitAnd (n / 2) (m / 2)) (bitAnd (b / 2) (m / 2)) * 2 + differ x y) (and-mod n m 1) (and-mod b m 1))
+        ∙ sym (xor-step (bitAnd n m) (bitAnd b m)))
 
 pub additive-zero : (f : ℕ → ℕ) → Additive f → f 0 ≡ 0
 additive-zero f h = sym (xor-cancel (f 0) (f 0)) ∙ ap (bitXor (f 0)) (sym (h 0 0)) ∙ xor-self (f 0)

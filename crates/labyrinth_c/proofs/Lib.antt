@@ -1,1 +1,2 @@
 pub mod OneShot
+pub mod Rows

@@ -3,11 +3,13 @@
 use Prim.Native.Nat.{ℕ, zero, suc}
 use mathlib.Core.Bool.{Bool, true, false}
 use mathlib.Core.List.{List}
+use lib.Dec.{eqb}
 use lib.ListN.{length}
 use Rattle.labyrinth.specs.declared.WorkingKey.{WorkingKey}
 use Rattle.labyrinth.specs.Cipher.{article}
-use Rattle.labyrinth.specs.Refusals.{expandRefusal, expansion}
+use Rattle.labyrinth.specs.Refusals.{unless, expandRefusal, expansion}
 use Rattle.modes.specs.Refusals.{firstOf}
+use Rattle.rows.specs.Rows.{rowRefusal}
 
 -- the working key that a key expands to; n = 0 and zeros if it is refused
 unfoldable pub keyOf : ℕ → ℕ → List ℕ → WorkingKey
@@ -22,3 +24,7 @@ abbrev pub yesByte : ℕ → Bool → ℕ
 yesByte zero true = 1
 yesByte zero false = 0
 yesByte (suc number) tag = 0
+
+-- a row has a length here: 4 if it isn't eight bytes, a number of ours, then mixing's own
+unfoldable pub rowNumber : List ℕ → ℕ
+rowNumber g = unless (eqb (length g) 8) 4 (rowRefusal g)

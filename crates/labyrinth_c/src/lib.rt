@@ -3,7 +3,7 @@ ghost use mathlib.Core.Path.{_≡_};
 ghost use Prim.Native.Nat.{_*_};
 ghost use lib.ListN.{length};
 ghost use Rattle.field.specs.Mixing.{mix};
-ghost use Rattle.field.specs.Published.{row};
+ghost use Rattle.field.specs.Published as published;
 ghost use Rattle.labyrinth.specs.Cipher.{article};
 ghost use Rattle.labyrinth.specs.Keys.{E, U};
 ghost use Rattle.labyrinth.specs.Refusals.{blockRefusal, outcome};
@@ -12,7 +12,8 @@ ghost use Rattle.modes.specs.Ctr.{ctr};
 ghost use Rattle.modes.specs.Cmac.{valid};
 ghost use Rattle.modes.specs.Cmac.{tag as madeTag};
 ghost use Rattle.modes.specs.Refusals.{cbcRefusal, ctrRefusal, cmacRefusal};
-ghost use Rattle.labyrinth_c.specs.OneShot.{keyOf, numberOf, yesByte};
+ghost use Rattle.rows.specs.Rows.{mixed};
+ghost use Rattle.labyrinth_c.specs.OneShot.{keyOf, numberOf, yesByte, rowNumber};
 
 // Enciphers a block.
 #[no_mangle]
@@ -155,10 +156,43 @@ pub extern "C" fn labyrinth_cmac_verify(
     v.number
 }
 
-// Mixes a word.
+// Mixes a word by the published row.
 #[no_mangle]
 pub extern "C" fn labyrinth_mix(word: u64) -> u64
-    ensures { λ r. ⌜ r ≡ mix row word ⌝ }
+    ensures { λ r. ⌜ r ≡ mix published.row word ⌝ }
 {
-    mixing::mix(word)
+    let m = rows::mix(tables::row(), word);
+    m.word
+}
+
+// A row of eight bytes.
+fn eight(row: &[u8]) -> [u8; 8]
+    requires { ⌜ length (now row) ≡ 8 ⌝ }
+    ensures { λ r. ⌜ r ≡ now (row .entry) ⌝ }
+{
+    [
+        row[0],
+        row[1],
+        row[2],
+        row[3],
+        row[4],
+        row[5],
+        row[6],
+        row[7],
+    ]
+}
+
+// Mixes a word by a row. Every call sets out.
+#[no_mangle]
+pub extern "C" fn labyrinth_mix_row(row: &[u8], word: u64, out: &mut u64) -> u8
+    ensures number { λ r. ⌜ r ≡ rowNumber (now (row .entry)) ⌝ }
+    ensures word { λ r. ⌜ now (out .exit) ≡ mixed (now (row .entry)) word r .word ⌝ }
+{
+    if row.len() != 8 {
+        *out = 0;
+        return 4;
+    }
+    let m = rows::mix(eight(row), word);
+    *out = m.word;
+    m.number
 }

@@ -1,5 +1,5 @@
-// The word operations of the layer: substitution at each byte, mixing by a matrix, and both at once
-// by a merged table. The definitions are the crate field's.
+// The word operations of the layer: substitution at each byte, mixing by a matrix or a row, and both
+// at once by a merged table. The definitions are the crate field's.
 
 ghost use mathlib.Core.Path.{_≡_};
 ghost use Prim.Native.Nat.{_<_};
@@ -87,11 +87,18 @@ pub fn mix_by(m: [[u8; 8]; 8], w: u64) -> u64
     r
 }
 
-// A word mixed by the matrix of the published row.
-pub fn mix(w: u64) -> u64
-    ensures { λ r. ⌜ r ≡ spec.mix row w ⌝ }
+// A word mixed by a row, without its matrix: the products by the coefficients, each rotated to its
+// coefficient's place.
+pub fn mix_row(g: [u8; 8], w: u64) -> u64
+    ensures { λ r. ⌜ r ≡ spec.mix g w ⌝ }
 {
-    mix_by(matrix(tables::row()), w)
+    let mut r = 0u64;
+    let mut k = 0usize;
+    while k < 8 {
+        r = r ^ arithmetic::rotate_left(arithmetic::times_each(w, g[k]), 8 * k);
+        k += 1;
+    }
+    r
 }
 
 // The words of a table at the bytes of w, each rotated to its byte's place.

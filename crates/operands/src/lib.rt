@@ -5,12 +5,13 @@ ghost use Rattle.field.specs.Published.{row};
 ghost use Rattle.labyrinth.specs.Blocks.{each, words, bytes};
 ghost use Rattle.operands.specs.Operands as spec;
 
-// Mixes the word of 8 bytes.
+// Mixes the word of 8 bytes by the published row.
 pub fn mix_bytes(b: &[u8; 8]) -> [u8; 8]
     ensures { λ r. ⌜ r ≡ bytes 1 (each 1 (mix row) (words 1 (now (b .entry)))) ⌝ }
 {
     let mut r = [0u8; 8];
-    buffers::store_word(&mut r, 0, mixing::mix(buffers::load_word(b, 0)));
+    let m = rows::mix(tables::row(), buffers::load_word(b, 0));
+    buffers::store_word(&mut r, 0, m.word);
     r
 }
 

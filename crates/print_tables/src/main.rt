@@ -1,5 +1,5 @@
 // Prints the tables, a line for each byte b in hexadecimal: b, S of b, the inverse of S at b, the
-// merged word for b, and the word b mixed by the matrix.
+// merged word for b, and the word b mixed, all by what the article publishes.
 
 use libc::STDOUT_FILENO;
 
@@ -14,7 +14,8 @@ fn print_line(b: u8, merged: u64) {
     print(tables::substitute(b) as u64, 2, b' ');
     print(tables::substitute_inverse(b) as u64, 2, b' ');
     print(merged, 16, b' ');
-    print(mixing::mix(b as u64), 16, b'\n');
+    let m = rows::mix(tables::row(), b as u64);
+    print(m.word, 16, b'\n');
 }
 
 fn main() {

@@ -11,7 +11,9 @@ use Rattle.field.specs.Published.{row}
 use Rattle.modes.specs.Refusals.{cbcRefusal, ctrRefusal, cmacRefusal}
 use Rattle.cmac.specs.declared.Verified.{Verified}
 use Rattle.promise.specs.Demands.{Steps, WorksTape, Expands, Enciphers, Deciphers, SealsCbc, OpensCbc, RunsCtr, ComesBack}
-use Rattle.promise.specs.Requests.{MakesTag, VerifiesTag, GetsYes, Multiplies}
+use Rattle.rows.proofs.Rows.{published-mixed}
+use Rattle.promise.specs.Requests.{MakesTag, VerifiesTag, GetsYes, Multiplies, MixesBy, MixesAsBefore, MakesTable, MakesTheTableLent, LooksUp}
+use Rattle.promise.proofs.Requests.{looks-up, published-table}
 use Rattle.tape.proofs.step as tape-step
 use Rattle.tape_run.proofs.run as tape-run
 use Rattle.expansion.proofs.expand as expand
@@ -27,7 +29,9 @@ use Rattle.cmac.proofs.verify as verify
 use Rattle.round_trips.proofs.tag_made_and_verified as tag-made-and-verified
 use Rattle.round_trips.proofs.cbc_there_and_back as cbc-there-and-back
 use Rattle.round_trips.proofs.ctr_there_and_back as ctr-there-and-back
-use Rattle.mixing.proofs.mix as mix-word
+use Rattle.rows.proofs.mix as mix-word
+use Rattle.rows.proofs.make_table as make-table
+use Rattle.tables.proofs.merged_table as merged-table
 use Rattle.arithmetic.proofs.times as times
 
 -- ---- demand 2
@@ -75,7 +79,7 @@ module _ (κs : Lfts 2) where
   pub works-tape : (a : _) (z : _) (e : _) → tape-run.Reads.Learnt κs a z e → WorksTape (a .0 .now) z (a .1 .0 .now) (e .1 .0 .now)
   works-tape a z e h = h
 
--- ---- demand 3: the round trips of the operations, and mixing
+-- ---- demand 3: the round trips of the operations; mixing is below, with the row that it takes since Job 4
 
 module _ (κs : Lfts 4) where
   pub cbc-comes-back : (a : _) (z : _) (e : _) → cbc-there-and-back.Reads.Learnt κs a z e
@@ -93,10 +97,6 @@ module _ (κs : Lfts 4) where
       ComesBack (ctrRefusal (k .n) start (length (a .1 .1 .1 .0 .now)) mid) (ctrRefusal (k .n) start mid (length (a .1 .1 .1 .1 .1 .0 .now)))
       (a .1 .1 .1 .0 .now) z (a .1 .1 .1 .1 .1 .0 .now) (e .1 .1 .1 .1 .1 .0 .now)
   ctr-comes-back a z e h = (h .0, h .1 .1)
-
-module _ (κs : Lfts 0) where
-  pub mixes : (a : _) (z : _) (e : _) → mix-word.Reads.Learnt κs a z e → z ≡ mix row (a .0)
-  mixes a z e h = h
 
 -- ---- document 02, Job 1
 
@@ -119,6 +119,27 @@ module _ (κs : Lfts 2) where
 module _ (κs : Lfts 0) where
   pub multiplies : (a : _) (z : _) (e : _) → times.Reads.Learnt κs a z e → Multiplies (a .0) (a .1 .0) z
   multiplies a z e h = h
+
+-- ---- document 02, Job 4, and of demand 3 mixing
+
+module _ (κs : Lfts 0) where
+  pub mixes-by : (a : _) (z : _) (e : _) → mix-word.Reads.Learnt κs a z e → MixesBy (a .0) (a .1 .0) z
+  mixes-by a z e h = h
+
+  pub mixes-as-before : (a : _) (z : _) (e : _) → mix-word.Reads.Learnt κs a z e → MixesAsBefore (a .0) (a .1 .0) z
+  mixes-as-before a z e h r = published-mixed (a .1 .0) r h
+
+module _ (κs : Lfts 1) where
+  pub makes-table : (a : _) (z : _) (e : _) → make-table.Reads.Learnt κs a z e → MakesTable (a .0) z (a .1 .0 .now) (e .1 .0 .now)
+  makes-table a z e h = h
+
+  pub table-looks-up : (a : _) (z : _) (e : _) → make-table.Reads.Learnt κs a z e → LooksUp (a .0) z (e .1 .0 .now)
+  table-looks-up a z e h = looks-up (a .0) (a .1 .0 .now) (e .1 .0 .now) h
+
+  -- beside what the constant table's function hands out, t
+  pub makes-the-table-lent : (κs′ : Lfts 0) (b : _) (t : _) (f : _) → merged-table.Reads.Learnt κs′ b t f → (a : _) (z : _) (e : _)
+      → make-table.Reads.Learnt κs a z e → MakesTheTableLent (a .0) (a .1 .0 .now) (e .1 .0 .now) t
+  makes-the-table-lent κs′ b t f p a z e h = published-table (a .0) (a .1 .0 .now) (e .1 .0 .now) h p
 
 -- ---- every function named here meets its contract
 
@@ -170,6 +191,12 @@ module _ {M : Type 1} where
 
   pub mix-met : mix-word.Statement.statement M
   mix-met = mix-word.Met.met
+
+  pub make-table-met : make-table.Statement.statement M
+  make-table-met = make-table.Met.met
+
+  pub merged-table-met : merged-table.Statement.statement M
+  merged-table-met = merged-table.Met.met
 
   pub times-met : times.Statement.statement M
   times-met = times.Met.met

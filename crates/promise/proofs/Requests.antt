@@ -6,22 +6,29 @@ use mathlib.Core.Logic.{_⊎_, inl, inr, ⊎-elim, ⊎-map, _↔_}
 use mathlib.Core.List.{List, [], _∷_}
 use Prim.Native.Nat.{ℕ, zero, suc, _≤_, _<_}
 use native.Mathlib.Omega.{arith}
-use borrow.Author.Tests.{leb-true, leb-false}
-use lib.Dec.{leb, leb→le}
+use borrow.Author.Tests.{leb-true, leb-false, eq-eqb, eqb-true}
+use lib.Dec.{eqb, leb, leb→le}
 use lib.ListN.{length, getD, take, replicate}
-use Rattle.field.specs.Lists.{tabulate, xorSum}
-use Rattle.field.specs.Words.{byte, join}
-use Rattle.field.specs.Field.{timesX, shift, mul}
-use Rattle.field.specs.Mixing.{element, matrix, dot, mixBy, mix}
-use Rattle.field.specs.Published.{row}
+use Rattle.field.specs.Lists.{tabulate, xorSum, iterate}
+use Rattle.field.specs.Words.{byte, join, eachByte}
+use Rattle.field.specs.Field.{timesX, shift, mul, power}
+use Rattle.field.specs.Substitution.{sub}
+use Rattle.field.specs.Mixing.{element, matrix, dot, mixBy, mix, rowSum}
+use Rattle.field.specs.Merged.{merged}
+use Rattle.field.specs.Published.{table1, row}
 use Rattle.field.proofs.Tests.{at}
+use Rattle.field.proofs.Mixing.{mix-xor, mix-rotl}
+use Rattle.field.proofs.Eight.{mix-eightfold}
 use Rattle.arithmetic.specs.BitLength.{bitLength}
 use Rattle.arithmetic.proofs.BitLength.{bitLength-leading, bitLength-iff}
 use Rattle.labyrinth.specs.Blocks.{each, words, bytes}
 use Rattle.labyrinth.specs.Cipher.{article}
 use Rattle.labyrinth.specs.Keys.{E}
-use Rattle.labyrinth.specs.Refusals.{legal, legalLength}
+use Rattle.labyrinth.specs.Refusals.{legal, legalLength, outcome}
 use Rattle.labyrinth.proofs.Refusals.{legal-iff}
+use Rattle.rows.specs.declared.Mixed.{Mixed}
+use Rattle.rows.specs.Rows.{rowRefusal, tableRefusal, mixed}
+use Rattle.rows.proofs.Rows.{row-zero, row-iff, table-zero, table-five, table-iff, mixed-done, mixed-refused, row-accepted, lookup-made}
 use Rattle.modes.specs.Cmac.{K1, K2, tag}
 use Rattle.modes.specs.Refusals.{cmacRefusal}
 use Rattle.labyrinth.proofs.Agree.{E-used}
@@ -38,7 +45,7 @@ use Rattle.tape.proofs.Accepted.{Closed}
 use Rattle.tape_run.specs.Runs.{steps, tapeSteps, joined, tapeAnswers, lastRest, Ran}
 use Rattle.tape_run.proofs.Runs.{run-whole}
 use Rattle.tape_run.proofs.Endings.{last-eight, eight-trails, eight-once, copy-whole, copy-short}
-use Rattle.promise.specs.Requests.{MasksDoubled, OneRemainder, YesExactly, TagsOfUsedWords, TagNumber, TagNumbers, EmptyRest, EndedState, FiveFirst, ExampleKept, EmptyTape, UnknownCommand, EightTells, OneEight, NothingLost, ShortTold, ShortCoefficients, EndsAfterHighestOne, TurnsNamed}
+use Rattle.promise.specs.Requests.{MasksDoubled, OneRemainder, YesExactly, TagsOfUsedWords, TagNumber, TagNumbers, EmptyRest, EndedState, FiveFirst, ExampleKept, EmptyTape, UnknownCommand, EightTells, OneEight, NothingLost, ShortTold, ShortCoefficients, EndsAfterHighestOne, TurnsNamed, MakesTable, MakesTheTableLent, by, EightTimesByRow, PublishedPower, XorByRow, RotatedByRow, LooksUp, RowNumber, RowNumbers, TableNumber, TableNumbers}
 
 -- ---- Job 1
 
@@ -160,3 +167,59 @@ ends-after-highest-one b h = (sym (bitLength-leading 8 b h), bitLength-iff 8 b h
 pub turns-named : TurnsNamed
 unfolding bitLength
 turns-named = (refl, refl, refl)
+
+-- ---- Job 4
+
+-- an accepted row mixes as the definition says
+by-mix : (g : List ℕ) → rowRefusal g ≡ 0 → by g ≡ mix g
+by-mix g e = fun-ext (λ w. ap (λ (m : Mixed). m .word) (mixed-done g w e))
+
+pub eight-times-by-row : EightTimesByRow
+eight-times-by-row g e w = ap (λ (f : ℕ → ℕ). iterate 8 f w) (by-mix g e) ∙ mix-eightfold g w
+
+pub published-power : PublishedPower
+unfolding row rowSum xorSum timesX shift mul power
+published-power = refl
+
+pub xor-by-row : XorByRow
+xor-by-row g e a b = rw (by-mix g e) (mix-xor g a b)
+
+pub rotated-by-row : RotatedByRow
+rotated-by-row g e w k hw hk = rw (by-mix g e) (mix-rotl g w k hw hk)
+
+pub looks-up : (g before after : List ℕ) {answer : ℕ} → MakesTable g answer before after → LooksUp g answer after
+looks-up g before after h z w =
+    let e : rowRefusal g ≡ 0 = row-iff g .1 (table-iff g (length before) .0 (sym (h .0) ∙ z) .0) in
+    lookup-made g (h .1 ∙ ap (λ (r : ℕ). outcome r (merged g table1) before) z) w ∙ sym (ap (λ (f : ℕ → ℕ). f (eachByte (sub table1) w)) (by-mix g e))
+
+pub published-table : (g before after : List ℕ) {answer : ℕ} {lent : List ℕ} → MakesTable g answer before after → lent ≡ merged row table1
+    → MakesTheTableLent g before after lent
+published-table g before after h p r l =
+    let e : tableRefusal g (length before) ≡ 0 = ap (λ (x : List ℕ). tableRefusal x (length before)) r ∙ table-iff row (length before) .1 (row-accepted, l) in
+    h .1 ∙ ap (λ (n : ℕ). outcome n (merged g table1) before) (h .0 ∙ e) ∙ ap (λ (x : List ℕ). merged x table1) r ∙ sym p
+
+pub row-numbers : RowNumbers
+row-numbers g w = go (eqb (rowSum g) 0) refl
+  where
+    go : (b : Bool) → eqb (rowSum g) 0 ≡ b → RowNumber g (mixed g w (rowRefusal g))
+    go true p =
+        let z : rowSum g ≡ 0 = eqb-true (rowSum g) 0 p in
+        let m = mixed-refused g w (rowRefusal g) (λ e. row-iff g .0 e z) in
+        inl (ap (λ (a : Mixed). a .number) m ∙ row-zero g z, ap (λ (a : Mixed). a .word) m, z)
+    go false p =
+        let h : rowSum g ≡ 0 → ⊥ = λ z. false≢true (sym p ∙ eq-eqb (rowSum g) 0 z) in
+        inr (ap (λ (a : Mixed). a .number) (mixed-done g w (row-iff g .1 h)), h)
+
+pub table-numbers : TableNumbers
+table-numbers g room = go (eqb (rowSum g) 0) (eqb room 256) refl refl
+  where
+    go : (b c : Bool) → eqb (rowSum g) 0 ≡ b → eqb room 256 ≡ c → TableNumber g room (tableRefusal g room)
+    go true c p q = let z : rowSum g ≡ 0 = eqb-true (rowSum g) 0 p in inl (table-zero g room z, z)
+    go false false p q =
+        let h : rowSum g ≡ 0 → ⊥ = λ z. false≢true (sym p ∙ eq-eqb (rowSum g) 0 z) in
+        let n : room ≡ 256 → ⊥ = λ e. false≢true (sym q ∙ eq-eqb room 256 e) in
+        inr (inl (table-five g room h n, h, n))
+    go false true p q =
+        let h : rowSum g ≡ 0 → ⊥ = λ z. false≢true (sym p ∙ eq-eqb (rowSum g) 0 z) in
+        let e : room ≡ 256 = eqb-true room 256 q in
+        inr (inr (table-iff g room .1 (h, e), h, e))

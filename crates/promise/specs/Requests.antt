@@ -5,16 +5,24 @@ use mathlib.Core.Bool.{true, false}
 use mathlib.Core.Logic.{_⊎_, _↔_}
 use mathlib.Core.List.{List, [], _∷_, _++_}
 use Prim.Native.Nat.{ℕ, _-_, _*_, _^_, _≤_, _<_}
+use lib.Bits.{bitXor}
 use lib.Count.{leadingZeros}
 use lib.ListN.{length, getD, take, drop, replicate}
-use Rattle.field.specs.Field.{mul, polyMul}
-use Rattle.field.specs.Published.{row}
+use Rattle.field.specs.Lists.{iterate}
+use Rattle.field.specs.Words.{rotl, eachByte}
+use Rattle.field.specs.Field.{mul, power, polyMul}
+use Rattle.field.specs.Substitution.{sub}
+use Rattle.field.specs.Mixing.{mix, rowSum, scale}
+use Rattle.field.specs.Merged.{merged, lookup}
+use Rattle.field.specs.Published.{table1, row}
 use Rattle.arithmetic.specs.declared.Product.{Product}
 use Rattle.arithmetic.specs.BitLength.{bitLength}
 use Rattle.labyrinth.specs.declared.WorkingKey.{WorkingKey}
 use Rattle.labyrinth.specs.Cipher.{article}
 use Rattle.labyrinth.specs.Keys.{E}
 use Rattle.labyrinth.specs.Refusals.{outcome}
+use Rattle.rows.specs.declared.Mixed.{Mixed}
+use Rattle.rows.specs.Rows.{rowRefusal, tableRefusal, mixed}
 use Rattle.modes.specs.Strings.{number}
 use Rattle.modes.specs.Cmac.{K1, K2, tag}
 use Rattle.modes.specs.Gf128.{Remainder}
@@ -151,3 +159,58 @@ Multiplies a b answer = (answer .value ≡ mul a b) × (answer .turns ≡ bitLen
 -- "five for 1F, eight for 80, none for 00"
 abbrev pub TurnsNamed : Type 0
 TurnsNamed = (bitLength 8 0x1F ≡ 5) × (bitLength 8 0x80 ≡ 8) × (bitLength 8 0x00 ≡ 0)
+
+-- ---- Job 4: the mixing row as an argument
+
+-- "Mixing and the merged table take a row of eight coefficients; the field stays 12D."
+abbrev pub MixesBy : List ℕ → ℕ → Mixed → Type 0
+MixesBy g w answer = answer ≡ mixed g w (rowRefusal g)
+
+abbrev pub MakesTable : List ℕ → ℕ → List ℕ → List ℕ → Type 0
+MakesTable g answer before after = (answer ≡ tableRefusal g (length before)) × (after ≡ outcome answer (merged g table1) before)
+
+-- "Every present caller hands in the published row and keeps its answers": that row gets 0 and the word that `mix row` gives, as in Demands; and
+-- a table made for it is the one that the engine by table is lent
+abbrev pub MixesAsBefore : List ℕ → ℕ → Mixed → Type 0
+MixesAsBefore g w answer = g ≡ row → answer ≡ record { number = 0; word = mix row w }
+
+abbrev pub MakesTheTableLent : List ℕ → List ℕ → List ℕ → List ℕ → Type 0
+MakesTheTableLent g before after lent = g ≡ row → length before ≡ 256 → after ≡ lent
+
+-- "For another row the eightfold mixing multiplies by the eighth power of the XOR of its coefficients instead of by 46"; and demand 3's other two
+-- laws of mixing. By a row: the word that mixing answers
+abbrev pub by : List ℕ → ℕ → ℕ
+by g w = mixed g w (rowRefusal g) .word
+
+abbrev pub EightTimesByRow : Type 0
+EightTimesByRow = (g : List ℕ) → rowRefusal g ≡ 0 → (w : ℕ) → iterate 8 (by g) w ≡ scale (power (rowSum g) 8) w
+
+abbrev pub PublishedPower : Type 0
+PublishedPower = power (rowSum row) 8 ≡ 0x46
+
+abbrev pub XorByRow : Type 0
+XorByRow = (g : List ℕ) → rowRefusal g ≡ 0 → (a b : ℕ) → by g (bitXor a b) ≡ bitXor (by g a) (by g b)
+
+abbrev pub RotatedByRow : Type 0
+RotatedByRow = (g : List ℕ) → rowRefusal g ≡ 0 → (w k : ℕ) → w < 2 ^ 64 → k ≤ 8 → by g (rotl w (8 * k)) ≡ rotl (by g w) (8 * k)
+
+-- look-up in a table made for a row is mixing, by that row, of the substituted word
+abbrev pub LooksUp : List ℕ → ℕ → List ℕ → Type 0
+LooksUp g answer after = answer ≡ 0 → (w : ℕ) → lookup after w ≡ by g (eachByte (sub table1) w)
+
+-- "Mixing, which took every value until now, and the table refuse a row whose coefficients XOR to zero with 13, returning the zero word or leaving
+-- the table buffer as it was; then a table buffer that isn't 256 words with 5."
+abbrev pub RowNumber : List ℕ → Mixed → Type 0
+RowNumber g answer =
+    ((answer .number ≡ 13) × (answer .word ≡ 0) × (rowSum g ≡ 0)) ⊎ ((answer .number ≡ 0) × (rowSum g ≡ 0 → ⊥))
+
+abbrev pub RowNumbers : Type 0
+RowNumbers = (g : List ℕ) (w : ℕ) → RowNumber g (mixed g w (rowRefusal g))
+
+abbrev pub TableNumber : List ℕ → ℕ → ℕ → Type 0
+TableNumber g room answer =
+    ((answer ≡ 13) × (rowSum g ≡ 0))
+    ⊎ (((answer ≡ 5) × (rowSum g ≡ 0 → ⊥) × (room ≡ 256 → ⊥)) ⊎ ((answer ≡ 0) × (rowSum g ≡ 0 → ⊥) × (room ≡ 256)))
+
+abbrev pub TableNumbers : Type 0
+TableNumbers = (g : List ℕ) (room : ℕ) → TableNumber g room (tableRefusal g room)

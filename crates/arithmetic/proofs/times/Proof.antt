@@ -1,24 +1,21 @@
--- After some turns the value is the XOR over as many low bits of b, x is a times that power of x, and y is what is left of b. Past the bit
--- length nothing is left to add.
+-- After some turns the value is the XOR over as many low bits of b, x is a times that power of x, and y is what is left of b.
 -- Assumes nothing.
-use mathlib.Core.Path.{_≡_, refl, sym, ap, ap₂, _∙_}
-use Prim.Native.Nat.{ℕ, _≤_, _<_, _+_, _-_, _%_, _/_, _*_, _^_}
+use mathlib.Core.Path.{_≡_, sym, ap, _∙_}
+use Prim.Native.Nat.{_≤_, _<_, _-_, _^_}
 use native.Mathlib.Nat.{mod-eq-of-lt}
 use native.Mathlib.Omega.{arith}
-use Rattle.field.specs.Lists.{xorSum}
 use Rattle.field.specs.Field.{mul, shift, timesX}
 use Rattle.field.proofs.Xor.{parity}
-use Rattle.field.proofs.Sums.{xorSum-next}
 use Rattle.field.proofs.Field.{digit-lt, timesX-lt}
-use Rattle.field.proofs.Forms.{shift-next, half-next, xorSum-end}
+use Rattle.field.proofs.Forms.{shift-next}
 use Rattle.arithmetic.specs.BitLength.{bitLength}
-use Rattle.arithmetic.proofs.BitLength.{xorSum-bits}
+use Rattle.arithmetic.proofs.Turns.{Turned, turned-none, turned-next, turned-end}
 use borrow.Author.Needs.{needs}
 use Rattle.arithmetic.proofs.times.Statement.{statement}
 use Rattle.arithmetic.proofs.times.Tie as tie
 
 abbrev Inv-loop : tie.InvT-loop
-Inv-loop a b end value₀ x₀ y₀ turns₀ value x y turns = (turns ≤ end) × (x < 2 ^ 8) × (value ≡ xorSum turns (λ k. b / 2 ^ k % 2 * shift a k)) × (x ≡ shift a turns) × (y ≡ b / 2 ^ turns)
+Inv-loop a b end value₀ x₀ y₀ turns₀ value x y turns = (turns ≤ end) × (x < 2 ^ 8) × Turned (shift a) b turns value x y
 
 abbrev μ-loop : tie.MeasureT-loop
 μ-loop a b end value₀ x₀ y₀ turns₀ value x y turns = end - turns
@@ -27,8 +24,8 @@ bit-length-requires : tie.Need-bit-length-requires Inv-loop μ-loop
 bit-length-requires c κs = search needs
 
 loop-holds : tie.Need-loop-holds Inv-loop μ-loop
-unfolding xorSum shift
-loop-holds c = (omega arith, omega arith, refl, sym (mod-eq-of-lt (omega arith)), omega arith)
+unfolding shift
+loop-holds c = (omega arith, omega arith, turned-none _ _ (sym (mod-eq-of-lt (omega arith))))
 
 mul-value : tie.Need-mul-value Inv-loop μ-loop
 mul-value c = record { fits = digit-lt (parity (c .before .loop .y)) (c .before .loop .x) (omega arith) }
@@ -47,9 +44,7 @@ loop-again c =
     let l = c .before .before .loop in (
       omega arith,
       rw (c .times-x .ensures) (timesX-lt (l .x)),
-      xorSum-next (l .turns) _ (l .inv .2) (ap₂ (λ (u v : ℕ). u % 2 * v) (l .inv .4) (l .inv .3)),
-      shift-next _ (l .turns) (c .times-x .ensures ∙ ap timesX (l .inv .3)),
-      half-next _ (l .turns) (l .inv .4),
+      turned-next _ _ (l .turns) (l .inv .2) (shift-next _ (l .turns) (c .times-x .ensures ∙ ap timesX (l .inv .2 .power))),
     )
 
 returns : tie.Need-returns Inv-loop μ-loop
@@ -57,7 +52,7 @@ unfolding mul
 returns c =
     let l = c .before .loop in
     let e : l .turns ≡ bitLength 8 (c .before .before .before .args .b) = omega arith in
-    (xorSum-end _ e (l .inv .2) ∙ xorSum-bits 8 _ _, e)
+    (turned-end _ _ e (l .inv .2), e)
 
 pub times-spec : {M : Type 1} → statement M
 times-spec =

@@ -1,0 +1,74 @@
+-- As `times` goes, with a word of eight bytes in the byte's place.
+-- Assumes nothing.
+use mathlib.Core.Path.{_≡_, sym, ap, _∙_}
+use Prim.Native.Nat.{_≤_, _<_, _-_, _^_}
+use native.Mathlib.Omega.{arith}
+use Rattle.field.specs.Words.{eachByte}
+use Rattle.field.specs.Field.{timesX}
+use Rattle.field.proofs.Xor.{parity}
+use Rattle.field.proofs.Words.{each-lt}
+use Rattle.field.proofs.Field.{digit-lt, timesX-lt}
+use Rattle.field.proofs.Scale.{shiftEach, shiftEach-zero, shiftEach-next, scale-bits}
+use Rattle.arithmetic.specs.BitLength.{bitLength}
+use Rattle.arithmetic.proofs.Turns.{Turned, turned-none, turned-next, turned-end}
+use borrow.Author.Needs.{needs}
+use Rattle.arithmetic.proofs.times_each.Statement.{statement}
+use Rattle.arithmetic.proofs.times_each.Tie as tie
+
+abbrev Inv-loop : tie.InvT-loop
+Inv-loop w c end value₀ x₀ y₀ turns₀ value x y turns = (turns ≤ end) × (x < 2 ^ 64) × Turned (shiftEach w) c turns value x y
+
+abbrev μ-loop : tie.MeasureT-loop
+μ-loop w c end value₀ x₀ y₀ turns₀ value x y turns = end - turns
+
+bit-length-requires : tie.Need-bit-length-requires Inv-loop μ-loop
+bit-length-requires c κs = search needs
+
+loop-holds : tie.Need-loop-holds Inv-loop μ-loop
+loop-holds c = (omega arith, omega arith, turned-none _ _ (shiftEach-zero _ (omega arith)))
+
+cast-value : tie.Need-cast-value Inv-loop μ-loop
+cast-value c = search needs
+
+mul-value : tie.Need-mul-value Inv-loop μ-loop
+mul-value c = record { fits = digit-lt (parity (c .before .loop .y)) (c .before .loop .x) (omega arith) }
+
+times-x-each-requires : tie.Need-times-x-each-requires Inv-loop μ-loop
+times-x-each-requires c κs = search needs
+
+add-turns : tie.Need-add-turns Inv-loop μ-loop
+add-turns c = search needs
+
+loop-less : tie.Need-loop-less Inv-loop μ-loop
+loop-less c = search needs
+
+loop-again : tie.Need-loop-again Inv-loop μ-loop
+loop-again c =
+    let l = c .before .before .loop in (
+      omega arith,
+      rw (c .times-x-each .ensures) (each-lt timesX (λ x h. timesX-lt x) (l .x)),
+      turned-next _ _ (l .turns) (l .inv .2) (shiftEach-next _ (l .turns) (c .times-x-each .ensures ∙ ap (eachByte timesX) (l .inv .2 .power))),
+    )
+
+returns : tie.Need-returns Inv-loop μ-loop
+returns c =
+    let l = c .before .loop in
+    let a = c .before .before .before .args in
+    let e : l .turns ≡ bitLength 8 (a .c) = omega arith in
+    turned-end _ _ e (l .inv .2) ∙ sym (scale-bits (a .c) (a .w))
+
+pub times-each-spec : {M : Type 1} → statement M
+times-each-spec =
+    tie.close
+    (tie.spec
+    Inv-loop
+    μ-loop
+    bit-length-requires
+    loop-holds
+    cast-value
+    mul-value
+    times-x-each-requires
+    add-turns
+    loop-less
+    loop-again
+    returns)

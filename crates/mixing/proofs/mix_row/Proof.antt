@@ -1,0 +1,69 @@
+-- After k turns the word is the XOR over the coefficients below k.
+-- Assumes nothing.
+use mathlib.Core.Path.{_≡_, refl, sym, ap₂, _∙_}
+use Prim.Native.Nat.{ℕ, _≤_, _-_, _*_, _%_}
+use native.Mathlib.Omega.{arith}
+use lib.ListN.{getD}
+use Rattle.field.specs.Lists.{xorSum}
+use Rattle.field.specs.Words.{rotl}
+use Rattle.field.specs.Mixing.{mix, scale}
+use Rattle.field.proofs.Sums.{xorSum-next}
+use Rattle.field.proofs.Mixing.{mix-coefficients}
+use Rattle.field.proofs.Forms.{xorSum-end}
+use borrow.Author.Needs.{needs}
+use Rattle.mixing.proofs.mix_row.Statement.{statement}
+use Rattle.mixing.proofs.mix_row.Tie as tie
+
+abbrev Inv-loop : tie.InvT-loop
+Inv-loop w g r₀ k₀ r k = (k ≤ 8) × (r ≡ xorSum k (λ j. rotl (scale (getD g j 0) w) (8 * j)))
+
+abbrev μ-loop : tie.MeasureT-loop
+μ-loop w g r₀ k₀ r k = 8 - k
+
+loop-holds : tie.Need-loop-holds Inv-loop μ-loop
+unfolding xorSum
+loop-holds c = (omega arith, refl)
+
+array-read-times-each : tie.Need-array-read-times-each Inv-loop μ-loop
+array-read-times-each c = search needs
+
+times-each-requires : tie.Need-times-each-requires Inv-loop μ-loop
+times-each-requires c κs = search needs
+
+mul-rotate-left : tie.Need-mul-rotate-left Inv-loop μ-loop
+mul-rotate-left c = search needs
+
+rotate-left-requires : tie.Need-rotate-left-requires Inv-loop μ-loop
+rotate-left-requires c κs = search needs
+
+add-k : tie.Need-add-k Inv-loop μ-loop
+add-k c = search needs
+
+loop-less : tie.Need-loop-less Inv-loop μ-loop
+loop-less c = search needs
+
+loop-again : tie.Need-loop-again Inv-loop μ-loop
+loop-again c =
+    let l = c .before .before .before .loop in (
+      omega arith,
+      xorSum-next (l .k) _ (l .inv .1) (c .rotate-left .ensures ∙ ap₂ rotl (c .before .times-each .ensures) (omega arith)),
+    )
+
+returns : tie.Need-returns Inv-loop μ-loop
+returns c = let l = c .before .loop in let e : l .k ≡ 8 = omega arith in xorSum-end _ e (l .inv .1) ∙ sym (mix-coefficients _ _)
+
+pub mix-row-spec : {M : Type 1} → statement M
+mix-row-spec =
+    tie.close
+    (tie.spec
+    Inv-loop
+    μ-loop
+    loop-holds
+    array-read-times-each
+    times-each-requires
+    mul-rotate-left
+    rotate-left-requires
+    add-k
+    loop-less
+    loop-again
+    returns)
