@@ -1,5 +1,5 @@
 /* Times the proved code against C in several shapes and OpenSSL's Camellia and ARIA at n = 1, 2 and 4: many blocks each by itself, both
-   ways, and runs by CBC and CTR; then tags, runs of all lengths, expansion, short runs, and mixing by the matrix. Always the best of several
+   ways, and runs by CBC and CTR; then tags, runs of all lengths, expansion, short runs, mixing, and merged tables. Always the best of several
    passes, all in turn.
    First C must give the same bytes. Times are of the processor given to the thread, so that other work disturbs them little; short runs go
    by the clock, which is read faster. It assumes Linux on x86-64. */
@@ -19,7 +19,9 @@ uint8_t sigourta_cbc_open(size_t n, const uint64_t words[32], const uint8_t *sta
 uint8_t sigourta_ctr(size_t n, const uint64_t words[32], const uint8_t *start, size_t start_length, uint64_t q, const uint8_t *src, size_t src_length, uint8_t *dst, size_t dst_length);
 uint8_t sigourta_cmac(const uint64_t words[32], const uint8_t *message, size_t length, uint8_t *tag, size_t tag_length);
 uint8_t sigourta_cmac_verify(const uint64_t words[32], const uint8_t *message, size_t length, const uint8_t *tag, size_t tag_length);
+uint8_t sigourta_make_table(const uint8_t row[8], uint64_t *table, size_t table_length);
 uint64_t labyrinth_mix(uint64_t word);
+uint8_t labyrinth_mix_row(const uint8_t *row, size_t row_length, uint64_t word, uint64_t *out);
 
 enum { KINDS = 5, LONG = 1 << 20, LONGEST = 1 << 24 };
 static const char *const KIND[KINDS] = {"enciphering", "deciphering", "CBC sealing", "CBC opening", "CTR"};
@@ -283,33 +285,61 @@ static void short_runs(void) {
     }
 }
 
-/* C mixes as ours does; 0 if not */
+/* a row whose coefficients have eight bits each */
+static const uint8_t LONG_ROW[8] = {0x8D, 0xA7, 0x93, 0xF1, 0xE5, 0x99, 0xB2, 0xC4};
+
+static uint64_t mix(uint64_t w) { return labyrinth_mix(w); }
+static uint64_t mix_long(uint64_t w) {
+    uint64_t mixed;
+    labyrinth_mix_row(LONG_ROW, 8, w, &mixed);
+    return mixed;
+}
+static uint64_t c_mix(uint64_t w) { return lab_mix(lab_row, w); }
+static uint64_t c_mix_long(uint64_t w) { return lab_mix(LONG_ROW, w); }
+
+/* C mixes and makes tables as ours does; 0 if not */
 static int same_mixed(void) {
+    static uint64_t ours[256], theirs[256];
+    int same = 1;
     for (int i = 0; i < 10000; i++) {
         uint64_t word = next_random();
-        if (lab_mix(word) != labyrinth_mix(word)) {
-            printf("mixing: DIFFER\n");
-            return 0;
-        }
+        same &= lab_mix_by_matrix(word) == mix(word) && c_mix(word) == mix(word) && c_mix_long(word) == mix_long(word);
     }
-    return 1;
+    lab_make_table(LONG_ROW, theirs);
+    same &= sigourta_make_table(LONG_ROW, ours, 256) == 0 && memcmp(ours, theirs, sizeof ours) == 0;
+    if (!same) printf("mixing: DIFFER\n");
+    return same;
 }
 
 /* ns for a word, each mixed from the one before */
-static double mix_often(uint64_t (*mix)(uint64_t)) {
+static double mix_often(uint64_t (*by)(uint64_t)) {
     static uint64_t word = 1;
     double began = now();
-    for (int i = 0; i < 1000; i++) word = mix(word);
+    for (int i = 0; i < 1000; i++) word = by(word);
     return (now() - began) / 1000;
 }
 
+/* ns for a table */
+static double make_often(int us) {
+    static uint64_t table[256];
+    double began = now();
+    for (int i = 0; i < 100; i++)
+        if (us) sigourta_make_table(LONG_ROW, table, 256);
+        else lab_make_table(LONG_ROW, table);
+    return (now() - began) / 100;
+}
+
 static void mixing(void) {
-    double us = 0, c = 0;
+    uint64_t (*const by[])(uint64_t) = {mix, c_mix, lab_mix_by_matrix, mix_long, c_mix_long};
+    double best[5] = {0}, made[2] = {0};
     for (int pass = 0; pass < 300; pass++) {
-        keep(&us, mix_often(labyrinth_mix));
-        keep(&c, mix_often(lab_mix));
+        for (int i = 0; i < 5; i++) keep(&best[i], mix_often(by[i]));
+        for (int us = 0; us < 2; us++) keep(&made[us], make_often(us));
     }
-    printf("Mixing a word by the matrix, ours: %.0f ns. C's time by the same loops / ours: %.2f.\n", us, c / us);
+    printf("Mixing a word by the published row, ours: %.1f ns. C's time by the same loops / ours: %.2f; by the matrix / ours: %.2f.\n", best[0],
+           best[1] / best[0], best[2] / best[0]);
+    printf("By a row of long coefficients, ours: %.1f ns. C's time by the same loops / ours: %.2f.\n", best[3], best[4] / best[3]);
+    printf("The merged table of that row, ours: %.2f us. C's time by the same loops / ours: %.2f.\n", made[1] / 1000, made[0] / made[1]);
 }
 
 int main(void) {

@@ -233,7 +233,7 @@ void lab_tag(enum lab_shape shape, const uint64_t *k, const uint8_t *message, si
     else tag_(1, k, message, length, tag);
 }
 
-static const uint8_t G[8] = {0x01, 0x01, 0x03, 0x0F, 0x0A, 0x1F, 0x0F, 0x0C};
+const uint8_t lab_row[8] = {0x01, 0x01, 0x03, 0x0F, 0x0A, 0x1F, 0x0F, 0x0C};
 
 INLINE uint8_t times(uint8_t a, uint8_t b) {
     int end = b ? 32 - __builtin_clz(b) : 0;
@@ -246,12 +246,35 @@ INLINE uint8_t times(uint8_t a, uint8_t b) {
     return value;
 }
 
-uint64_t lab_mix(uint64_t w) {
+uint64_t lab_mix_by_matrix(uint64_t w) {
     uint64_t mixed = 0;
     for (int i = 0; i < 8; i++) {
         uint8_t sum = 0;
-        for (int j = 0; j < 8; j++) sum ^= times((uint8_t)(w >> 8 * j), G[(i + 8 - j) % 8]);
+        for (int j = 0; j < 8; j++) sum ^= times((uint8_t)(w >> 8 * j), lab_row[(i + 8 - j) % 8]);
         mixed |= (uint64_t)sum << 8 * i;
     }
     return mixed;
+}
+
+INLINE uint64_t times_each(uint64_t w, uint8_t c) {
+    int end = c ? 32 - __builtin_clz(c) : 0;
+    uint64_t value = 0;
+    for (int turns = 0; turns < end; turns++) {
+        value ^= (c & 1) * w;
+        uint64_t h = w >> 7 & 0x0101010101010101;
+        w = (w & 0x7F7F7F7F7F7F7F7F) << 1 ^ h * 0x2D;
+        c >>= 1;
+    }
+    return value;
+}
+
+uint64_t lab_mix(const uint8_t row[8], uint64_t w) {
+    uint64_t mixed = 0;
+    for (int k = 0; k < 8; k++) mixed ^= rol(times_each(w, row[k]), 8 * k);
+    return mixed;
+}
+
+void lab_make_table(const uint8_t row[8], uint64_t table[256]) {
+    uint64_t g = lab_mix(row, 1);
+    for (int b = 0; b < 256; b++) table[b] = times_each(g, S[b]);
 }

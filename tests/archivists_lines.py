@@ -21,9 +21,22 @@ def cipher(n, l, key):
     return found
 
 
+def mixed(row, word):
+    """Its program mixes by the row in G."""
+    if len(row) != 8:
+        raise ValueError("a row has eight coefficients")
+    kept, labyrinth.G = labyrinth.G, list(row)
+    try:
+        return labyrinth.cmbn_poly(word)
+    finally:
+        labyrinth.G = kept
+
+
 def answer(op, *fields):
     if op == "mix":
         return f"{labyrinth.cmbn_poly(int(fields[0], 16)):016x}"
+    if op == "mix_row":
+        return f"0 {mixed(data(fields[0]), int(fields[1], 16)):016x}"
     if op in ("cmac", "cmac_verify"):
         l, key, message, tag = fields
         made = modes.cmac(cipher(1, l, key), data(message), len(data(tag)))

@@ -1,6 +1,6 @@
-/* The C interface tried: every number in its order, NULL, runs and tags over labyrinth_encipher, stack use, and lent memory; and that
- * this program notices what it is to notice, by stubs that stand in the library's place and do wrong. tests/c_interface.sh builds and
- * runs it.
+/* The C interface tried: every number in its order, NULL, runs and tags over labyrinth_encipher, mixing by a row, stack use, and lent
+ * memory; and that this program notices what it is to notice, by stubs that stand in the library's place and do wrong.
+ * tests/c_interface.sh builds and runs it.
  *
  *     c_interface [--long] [--seed N]      the seed is for the lent memory; without it one is taken from the clock, and printed */
 #define _GNU_SOURCE
@@ -19,26 +19,29 @@
 
 #include "labyrinth.h"
 
-/* ---- calls: a function of any of the five shapes with its arguments */
+/* ---- calls: a function of any of the six shapes with its arguments */
 
 typedef uint8_t block_fn(size_t, size_t, const uint8_t *, size_t, const uint8_t *, size_t, uint8_t *, size_t);
 typedef uint8_t cbc_fn(size_t, size_t, const uint8_t *, size_t, const uint8_t *, size_t, const uint8_t *, size_t, uint8_t *, size_t);
 typedef uint8_t ctr_fn(size_t, size_t, const uint8_t *, size_t, const uint8_t *, size_t, uint64_t, const uint8_t *, size_t, uint8_t *, size_t);
 typedef uint8_t cmac_fn(size_t, const uint8_t *, size_t, const uint8_t *, size_t, uint8_t *, size_t);
 typedef uint8_t verify_fn(size_t, const uint8_t *, size_t, const uint8_t *, size_t, const uint8_t *, size_t, uint8_t *);
+typedef uint8_t row_fn(const uint8_t *, size_t, uint64_t, uint64_t *);
 typedef uint64_t mix_fn(uint64_t);
 
-/* A tag's message is SRC. The tag to be made is DST; the one to be verified stands for START, and DST is *yes, always one byte. */
-enum kind { BLOCK, CBC, CTR, CMAC, VERIFY, KINDS };
+/* A tag's message is SRC. The tag to be made is DST; the one to be verified stands for START, and DST is *yes, always one byte. A row is
+ * KEY, its word q, and DST is *out, always eight bytes. */
+enum kind { BLOCK, CBC, CTR, CMAC, VERIFY, ROW, KINDS };
 enum buffer { KEY, START, SRC, DST, BUFFERS };
-static const char *const buffer_names[BUFFERS] = {"key", "start or the tag to be verified", "src or msg", "dst, the tag to be made or yes"};
-enum { OPS = 7, MAKES = 5, VERIFIES = 6 };
+static const char *const buffer_names[BUFFERS] = {"key or row", "start or the tag to be verified", "src or msg",
+                                                  "dst, the tag to be made, yes or out"};
+enum { OPS = 8, MAKES = 5, VERIFIES = 6 };
 
 struct op {
     const char *name;
     enum kind kind;
-    int back; /* the number of the op that undoes it; none for a tag */
-    union { block_fn *block; cbc_fn *cbc; ctr_fn *ctr; cmac_fn *cmac; verify_fn *verify; } fn;
+    int back; /* the number of the op that undoes it; none for a tag or a row */
+    union { block_fn *block; cbc_fn *cbc; ctr_fn *ctr; cmac_fn *cmac; verify_fn *verify; row_fn *row; } fn;
 };
 
 static const struct op library[OPS] = {
@@ -49,6 +52,7 @@ static const struct op library[OPS] = {
     {"labyrinth_ctr", CTR, 4, {.ctr = labyrinth_ctr}},
     {"labyrinth_cmac", CMAC, -1, {.cmac = labyrinth_cmac}},
     {"labyrinth_cmac_verify", VERIFY, -1, {.verify = labyrinth_cmac_verify}},
+    {"labyrinth_mix_row", ROW, -1, {.row = labyrinth_mix_row}},
 };
 
 struct call {
@@ -71,22 +75,38 @@ static __attribute__((noinline)) uint8_t run(const struct op *op, const struct c
                           c->len[DST]);
     case CMAC:
         return op->fn.cmac(c->l, c->at[KEY], c->len[KEY], c->at[SRC], c->len[SRC], c->at[DST], c->len[DST]);
-    default:
+    case VERIFY:
         return op->fn.verify(c->l, c->at[KEY], c->len[KEY], c->at[SRC], c->len[SRC], c->at[START], c->len[START], c->at[DST]);
+    default:
+        return op->fn.row(c->at[KEY], c->len[KEY], c->q, (uint64_t *)(void *)c->at[DST]);
     }
 }
 
 static int is_tag(enum kind kind) { return kind == CMAC || kind == VERIFY; }
 
+/* Whether every call sets DST, also one that is refused. */
+static int always_sets(enum kind kind) { return kind == VERIFY || kind == ROW; }
+
 static enum buffer tag_of(enum kind kind) { return kind == CMAC ? DST : START; }
 
 /* Whether the operations of this kind have such a buffer. */
-static int has(enum kind kind, enum buffer b) { return b != START || (kind != BLOCK && kind != CMAC); }
+static int has(enum kind kind, enum buffer b)
+{
+    return kind == ROW ? b == KEY || b == DST : b != START || (kind != BLOCK && kind != CMAC);
+}
 
-/* Document 01's number, by its order of checks, and document 02's for tags; expansion's first. */
+static uint8_t row_sum(const uint8_t *row, size_t len)
+{
+    uint8_t sum = 0;
+    for (size_t i = 0; i < len; i++) sum ^= row[i];
+    return sum;
+}
+
+/* Document 01's number, by its order of checks, and document 02's for tags and rows; expansion's first. */
 static uint8_t number_of(enum kind kind, const struct call *c)
 {
     size_t n = c->n, l = c->l;
+    if (kind == ROW) return c->len[KEY] != 8 ? 4 : row_sum(c->at[KEY], 8) == 0 ? 13 : 0;
     if (n != 1 && n != 2 && n != 4) return 1;
     if (l != 2 && l != 3 && l != 4) return 2;
     if (c->len[KEY] != 8 * n * l) return 3;
@@ -174,11 +194,37 @@ static void cmac(size_t l, const uint8_t *key, const uint8_t *msg, size_t len, u
     encipher(l, key, whole);
 }
 
-/* Whether *yes is what it must be after any call, and the tag after one that was done. */
-static int tag_right(enum kind kind, const struct call *c)
+/* ---- rows: the article's sum with the field's product written out */
+
+static const uint8_t published[8] = {0x01, 0x01, 0x03, 0x0F, 0x0A, 0x1F, 0x0F, 0x0C}, neutral[8] = {0x01};
+
+static uint8_t times(uint8_t a, uint8_t b)
+{
+    unsigned product = 0;
+    for (int k = 7; k >= 0; k--) {
+        product <<= 1;
+        if (product & 0x100) product ^= 0x12D;
+        if (b >> k & 1) product ^= a;
+    }
+    return (uint8_t)product;
+}
+
+static uint64_t mixed(const uint8_t *row, uint64_t word)
+{
+    uint64_t sum = 0;
+    for (int i = 0; i < 8; i++)
+        for (int j = 0; j < 8; j++) sum ^= (uint64_t)times(row[(i - j) & 7], (uint8_t)(word >> 8 * j)) << 8 * i;
+    return sum;
+}
+
+/* Whether *yes or *out is what it must be after any call, and the tag after one that was done; blocks and runs are not looked at. */
+static int made_right(enum kind kind, const struct call *c)
 {
     uint8_t whole[16];
     int refused = number_of(kind, c) != 0;
+    uint64_t word = kind == ROW && !refused ? mixed(c->at[KEY], c->q) : 0;
+    if (kind == ROW) return memcmp(c->at[DST], &word, sizeof word) == 0;
+    if (!is_tag(kind)) return 1;
     if (!refused) cmac(c->l, c->at[KEY], c->at[SRC], c->len[SRC], whole);
     int equal = !refused && memcmp(c->at[tag_of(kind)], whole, c->len[tag_of(kind)]) == 0;
     return kind == CMAC ? refused || equal : *c->at[DST] == equal;
@@ -187,7 +233,8 @@ static int tag_right(enum kind kind, const struct call *c)
 /* ---- stubs: the library's functions, which then do one thing wrong, all of them or those of one kind */
 
 static struct {
-    enum { HONEST, PAST, BEFORE, WRITES, SWAPS, TOUCHES, DEEP, CALLS_3, ALTERS, SAYS_YES, SAYS_NO, LOOKS_AT_8, KEEPS } what;
+    enum { HONEST, PAST, BEFORE, WRITES, SWAPS, TOUCHES, DEEP, CALLS_3, ALTERS, SAYS_YES, SAYS_NO, LOOKS_AT_8, KEEPS, SWAPS_13, SUM_FIRST,
+           SUMS_7, MIXES, ONE_ROW, TURNS, CUTS } what;
     enum buffer which;
     enum kind kind; /* KINDS for all */
 } stub;
@@ -204,6 +251,7 @@ static uint8_t misdo(enum kind kind, uint8_t number, struct call c)
     case WRITES: if (len) at[0] = at[0]; break;
     case SWAPS: if (number == 4 || number == 5) number = (uint8_t)(9 - number); break;
     case TOUCHES: if (number && c.len[DST]) c.at[DST][c.len[DST] - 1] ^= 1; break;
+    case SWAPS_13: if (number == 4 || number == 13) number = (uint8_t)(17 - number); break;
     case CALLS_3: if (number == 11) number = 3; break;
     case ALTERS: if (number == 0) c.at[DST][c.len[DST] - 1] ^= 0x80; break;
     case SAYS_YES: if (number == 0) *c.at[DST] = 1; break;
@@ -263,6 +311,28 @@ static uint8_t stub_cmac_verify(size_t l, const uint8_t *key, size_t key_len, co
     if (stub.what == LOOKS_AT_8 && number == 0) labyrinth_cmac_verify(l, key, key_len, msg, msg_len, tag, 8, yes);
     return misdo(VERIFY, number, LENT(1, tag, tag_len, msg, msg_len, yes, 1));
 }
+static uint8_t stub_mix_row(const uint8_t *row, size_t row_len, uint64_t word, uint64_t *out)
+{
+    struct call c = {.q = word, .at = {(uint8_t *)(uintptr_t)row, NULL, NULL, (uint8_t *)out}, .len = {row_len, 0, 0, sizeof *out}};
+    uint64_t held = *out;
+    uint8_t turned[8];
+    if (stub.what == DEEP) deepen();
+    if (stub.what == CUTS) row_len %= 256;
+    if (stub.what == ONE_ROW && row_len == 8) row = published;
+    if (stub.what == TURNS && row_len == 8) {
+        for (int i = 0; i < 8; i++) turned[i] = row[-i & 7];
+        row = turned;
+    }
+    uint8_t number = labyrinth_mix_row(row, row_len, word, out);
+    if (stub.what == KEEPS && number != 0) *out = held;
+    if (stub.what == SUM_FIRST && row_sum(row, row_len) == 0) number = 13;
+    if (stub.what == MIXES && number != 0 && row_len == 8) *out = mixed(row, word);
+    if (stub.what == SUMS_7 && row_len == 8) {
+        number = row_sum(row, 7) == 0 ? 13 : 0;
+        *out = number == 0 ? mixed(row, word) : 0;
+    }
+    return misdo(ROW, number, c);
+}
 
 static const struct op stubs[OPS] = {
     {"stub_encipher", BLOCK, 1, {.block = stub_encipher}},
@@ -272,12 +342,13 @@ static const struct op stubs[OPS] = {
     {"stub_ctr", CTR, 4, {.ctr = stub_ctr}},
     {"stub_cmac", CMAC, -1, {.cmac = stub_cmac}},
     {"stub_cmac_verify", VERIFY, -1, {.verify = stub_cmac_verify}},
+    {"stub_mix_row", ROW, -1, {.row = stub_mix_row}},
 };
 
 /* ---- numbers: each function over a grid of n, l and lengths; every buffer of length 0 is NULL */
 
 enum { ROOM = 2048, MARGIN = 64 };
-static uint8_t plain[BUFFERS][ROOM + 2 * MARGIN], before[BUFFERS][ROOM + 2 * MARGIN];
+static _Alignas(uint64_t) uint8_t plain[BUFFERS][ROOM + 2 * MARGIN], before[BUFFERS][ROOM + 2 * MARGIN];
 
 /* The four lengths around one that fits, 0 first; how many there are. */
 static int around(size_t right, size_t *lengths)
@@ -302,12 +373,13 @@ static void number_case(const struct op *op, struct call *c, long *calls, long *
     ++*calls;
     seen[expected]++;
     if (number != expected) wrong(CALL_TEXT "%d, not %d", CALL(op, c), number, expected);
-    size_t written = number == 0 || op->kind == VERIFY ? c->len[DST] : 0;
+    size_t written = number == 0 || always_sets(op->kind) ? c->len[DST] : 0;
     if (memcmp(plain[DST], before[DST], MARGIN) != 0 ||
         memcmp(plain[DST] + MARGIN + written, before[DST] + MARGIN + written, ROOM + MARGIN - written) != 0)
         wrong(CALL_TEXT "number %d, and the destination touched", CALL(op, c), number);
-    if (is_tag(op->kind) ? !tag_right(op->kind, c) : written && memcmp(plain[DST] + MARGIN, before[DST] + MARGIN, written) == 0)
-        wrong(CALL_TEXT "number %d, and %s", CALL(op, c), number, is_tag(op->kind) ? "the tag or *yes is wrong" : "nothing written");
+    if (!made_right(op->kind, c)) wrong(CALL_TEXT "number %d, and the tag, *yes or *out is wrong", CALL(op, c), number);
+    if (op->kind <= CTR && written && memcmp(plain[DST] + MARGIN, before[DST] + MARGIN, written) == 0)
+        wrong(CALL_TEXT "number %d, and nothing written", CALL(op, c), number);
     for (int b = KEY; b < DST; b++)
         if (memcmp(plain[b], before[b], sizeof plain[b]) != 0) wrong("%s: %s changed", op->name, buffer_names[b]);
 }
@@ -349,6 +421,49 @@ static void tag_numbers(const struct op *op, long *calls, long *seen)
     }
 }
 
+/* The word that a call with such a row leaves in *out. */
+static uint64_t row_case(const struct op *op, const uint8_t *row, size_t len, uint64_t word, long *calls, long *seen)
+{
+    struct call c = {.q = word, .len = {len, 0, 0, sizeof word}};
+    memcpy(before[KEY] + MARGIN, row, len);
+    memcpy(plain[KEY], before[KEY], sizeof plain[KEY]);
+    number_case(op, &c, calls, seen);
+    memcpy(&word, plain[DST] + MARGIN, sizeof word);
+    return word;
+}
+
+/* Rows of 0 to 20 bytes and more that XOR to zero, or would without one of them, whichever it is; then, of eight coefficients, the
+ * published row and the one that changes no word, every coefficient alone with every byte alone, and any rows. */
+static void row_numbers(const struct op *op, long *calls, long *seen)
+{
+    static const size_t more[] = {24, 64, 255, 256 + 8, ROOM};
+    static uint8_t row[ROOM];
+    for (size_t t = 0; t < 21 + sizeof more / sizeof *more; t++)
+        for (size_t way = 0; way < 16; way++) {
+            size_t len = t < 21 ? t : more[t - 21], one = len ? way % 8 % len : 0;
+            fill(row, len);
+            row[one] |= 1;
+            if (len) row[(one + 1) % len] ^= (uint8_t)(row_sum(row, len) ^ (way < 8 ? 0 : row[one]));
+            row_case(op, row, len, next(), calls, seen);
+        }
+    for (int i = 0; i < 1000; i++) {
+        uint64_t word = i < 64 ? (uint64_t)1 << i : next();
+        if (row_case(op, published, 8, word, calls, seen) != labyrinth_mix(word)) wrong("%s: the published row and labyrinth_mix differ", op->name);
+        if (row_case(op, neutral, 8, word, calls, seen) != word) wrong("%s: the row 01 and seven 00 changes a word", op->name);
+    }
+    for (int g = 0; g < 256; g++)
+        for (uint64_t b = 0; b < 256; b++) {
+            size_t place = below(8);
+            memset(row, 0, 8);
+            row[place] = (uint8_t)g;
+            row_case(op, row, 8, b << 8 * below(8), calls, seen);
+        }
+    for (int i = 0; i < 4096; i++) {
+        fill(row, 8);
+        row_case(op, row, 8, next(), calls, seen);
+    }
+}
+
 /* The operations of one kind, or, for KINDS, all. */
 static long numbers(const struct op *ops, enum kind kind)
 {
@@ -358,10 +473,11 @@ static long numbers(const struct op *ops, enum kind kind)
         memcpy(plain[b], before[b], sizeof plain[b]);
     }
     for (const struct op *op = ops; op < ops + OPS; op++) {
-        long seen[12] = {0};
+        long seen[14] = {0};
         if (kind != KINDS && kind != op->kind) continue;
         if (is_tag(op->kind)) tag_numbers(op, &calls, seen);
-        for (int i = 0; !is_tag(op->kind) && i < NS; i++)
+        if (op->kind == ROW) row_numbers(op, &calls, seen);
+        for (int i = 0; op->kind <= CTR && i < NS; i++)
             for (int j = 0; j < LS; j++) {
                 size_t block = 16 * ns[i].as, keys[4], starts[4], sources[6];
                 int key_count = around(8 * ns[i].as * ls[j].as, keys), start_count = op->kind == BLOCK ? 1 : around(block, starts);
@@ -384,9 +500,9 @@ static long numbers(const struct op *ops, enum kind kind)
                             }
                         }
             }
-        for (int number = 0; number <= 11; number++) {
-            /* a bit for each number that a kind gives: tags 0, 2, 3 and 11 */
-            static const int given_by[KINDS] = {[BLOCK] = 0x3F, [CBC] = 0x7F, [CTR] = 0x6F, [CMAC] = 0x80D, [VERIFY] = 0x80D};
+        for (int number = 0; number <= 13; number++) {
+            /* a bit for each number that a kind gives: tags 0, 2, 3 and 11, rows 0, 4 and 13 */
+            static const int given_by[KINDS] = {[BLOCK] = 0x3F, [CBC] = 0x7F, [CTR] = 0x6F, [CMAC] = 0x80D, [VERIFY] = 0x80D, [ROW] = 0x2011};
             int given = given_by[op->kind] >> number & 1;
             if (given != (seen[number] > 0)) wrong("%s: the grid has %ld calls with the number %d", op->name, seen[number], number);
         }
@@ -403,26 +519,28 @@ static long far_lengths(const struct op *ops)
     if (at == MAP_FAILED) stop("mmap");
     for (const struct op *op = ops; op < ops + OPS; op++)
         for (int b = 0; b < BUFFERS; b++) {
-            if (!has(op->kind, (enum buffer)b) || (is_tag(op->kind) && b != KEY && b != (int)tag_of(op->kind))) continue;
-            struct call c = {.n = 1, .l = l, .len = {8 * l, 16, 16, op->kind == VERIFY ? 1 : 16}};
+            if (!has(op->kind, (enum buffer)b) || (is_tag(op->kind) && b == SRC) || (always_sets(op->kind) && b == DST)) continue;
+            struct call c = {.n = 1, .l = l, .len = {op->kind == ROW ? 8 : 8 * l, 16, 16, op->kind == VERIFY ? 1 : 16}};
             for (int i = 0; i < BUFFERS; i++) c.at[i] = plain[i];
             c.at[b] = at;
             c.len[b] += far;
             plain[DST][0] = 1;
             uint8_t expected = number_of(op->kind, &c), number = run(op, &c);
             if (expected == 0 || number != expected) wrong(CALL_TEXT "%d, not %d", CALL(op, &c), number, expected);
-            if (op->kind == VERIFY && plain[DST][0] != 0) wrong(CALL_TEXT "a refusal, and *yes is not 0", CALL(op, &c));
+            if (!made_right(op->kind, &c)) wrong(CALL_TEXT "a refusal, and *yes or *out is not 0", CALL(op, &c));
             calls++;
         }
     munmap(at, far + ROOM);
     return calls;
 }
 
-/* NULL for a page, a message or a tag of no bytes, by name. */
+/* NULL for a page, a message, a tag or a row of no bytes, by name. */
 static void no_bytes(void)
 {
     static const uint8_t zeros[128];
     uint8_t tag[16], yes = 0xAA;
+    uint64_t out = 0xAA;
+    if (labyrinth_mix_row(NULL, 0, 1, &out) != 4 || out != 0) wrong("mix_row: NULL, a row of 0 bytes");
     for (size_t l = 2; l <= 4; l++) {
         if (labyrinth_cmac(l, zeros, 8 * l, NULL, 0, tag, sizeof tag) != 0) wrong("cmac: NULL, 0 bytes");
         if (labyrinth_cmac_verify(l, zeros, 8 * l, NULL, 0, tag, sizeof tag, &yes) != 0 || yes != 1) wrong("cmac_verify: NULL, 0 bytes");
@@ -583,6 +701,12 @@ static uint8_t top_verify(size_t l, const uint8_t *k, size_t kl, const uint8_t *
     NOTE_TOP();
     return 0;
 }
+static uint8_t top_row(const uint8_t *r, size_t rl, uint64_t w, uint64_t *o)
+{
+    (void)r, (void)rl, (void)w, (void)o;
+    NOTE_TOP();
+    return 0;
+}
 static uint64_t top_mix(uint64_t word)
 {
     NOTE_TOP();
@@ -611,7 +735,7 @@ static void over_there(int paint)
 static size_t stack_of(const struct op *op, const struct call *c, mix_fn *mix)
 {
     static const struct op tops[KINDS] = {{"", BLOCK, 0, {.block = top_block}}, {"", CBC, 0, {.cbc = top_cbc}}, {"", CTR, 0, {.ctr = top_ctr}},
-                                          {"", CMAC, 0, {.cmac = top_cmac}}, {"", VERIFY, 0, {.verify = top_verify}}};
+                                          {"", CMAC, 0, {.cmac = top_cmac}}, {"", VERIFY, 0, {.verify = top_verify}}, {"", ROW, 0, {.row = top_row}}};
     size_t used = 0;
     there_call = c;
     there_op = op ? &tops[op->kind] : NULL;
@@ -633,8 +757,9 @@ static size_t stack_of(const struct op *op, const struct call *c, mix_fn *mix)
 static size_t stack(const struct op *ops, int large, size_t *each)
 {
     static const size_t lengths[] = {0, 64, 128, 8192, 8192 + 64, 65536, 1 << 20};
-    static uint8_t bytes[2][1 << 20];
+    static _Alignas(uint64_t) uint8_t bytes[2][1 << 20];
     size_t most = each[OPS] = stack_of(NULL, NULL, labyrinth_mix);
+    memcpy(bytes[0], published, sizeof published);
     for (int o = 0; o < OPS; o++) {
         each[o] = 0;
         enum kind kind = ops[o].kind;
@@ -643,13 +768,13 @@ static size_t stack(const struct op *ops, int large, size_t *each)
                 for (size_t i = 0; i < sizeof lengths / sizeof *lengths - !large; i++) {
                     size_t len = kind == BLOCK ? 16 * n : lengths[i];
                     struct call c = {.n = n, .l = l, .q = 1, .at = {bytes[0], bytes[0] + 512, bytes[0], bytes[1]},
-                                     .len = {8 * n * l, 16 * n, len, kind == CMAC ? 16 : kind == VERIFY ? 1 : len}};
+                                     .len = {kind == ROW && n ? 8 : 8 * n * l, 16 * n, len, kind == CMAC ? 16 : kind == VERIFY ? 1 : len}};
                     size_t used = stack_of(&ops[o], &c, NULL);
                     if (used > LABYRINTH_STACK)
                         wrong("%s: n %zu, l %zu, %zu bytes: %zu bytes of stack, and the header says %d", ops[o].name, n, l, len, used,
                               LABYRINTH_STACK);
                     if (used > each[o]) each[o] = used;
-                    if (kind == BLOCK) break;
+                    if (kind == BLOCK || kind == ROW) break;
                 }
         if (each[o] > most) most = each[o];
     }
@@ -702,17 +827,18 @@ static void memory_case(const struct op *ops, int place)
     int tag = is_tag(op->kind);
     size_t n = tag ? 1 : (size_t)1 << below(3), l = 2 + below(3);
     struct call c = {.n = n, .l = l, .q = below(2) ? next() : below(3)};
-    c.len[KEY] = 8 * n * l;
+    c.len[KEY] = op->kind == ROW ? 8 : 8 * n * l;
     c.len[START] = has(op->kind, START) ? 16 * n : 0;
-    c.len[SRC] = op->kind == BLOCK ? 16 * n : some_length();
+    c.len[SRC] = op->kind == BLOCK ? 16 * n : has(op->kind, SRC) ? some_length() : 0;
     if (op->kind == CBC) c.len[SRC] -= c.len[SRC] % (16 * n);
-    c.len[DST] = op->kind == VERIFY ? 1 : c.len[SRC];
+    c.len[DST] = op->kind == VERIFY ? 1 : op->kind == ROW ? sizeof(uint64_t) : c.len[SRC];
+    if (op->kind == ROW && below(4) == 0) c.len[KEY] = below(3) ? below(21) : 256 + 8;
     if (tag) c.len[tag_of(op->kind)] = 8 + below(9);
     switch (below(16)) { /* now and then something does not fit */
     case 0: c.len[KEY] = below(200); break;
     case 1: if (has(op->kind, START)) c.len[START] = below(100); break;
     case 2: c.len[SRC] = below(200); break;
-    case 3: if (op->kind != VERIFY) c.len[DST] = below(200); break;
+    case 3: if (!always_sets(op->kind)) c.len[DST] = below(200); break;
     case 4: if (tag) c.len[tag_of(op->kind)] = below(20); else c.n = illegal[below(5)]; break;
     case 5: c.l = illegal[below(2) ? 4 : 2]; break;
     default: break;
@@ -723,6 +849,7 @@ static void memory_case(const struct op *ops, int place)
         fill(c.at[b], c.len[b]);
         if (c.len[b] == 0 && place == PLACE_ANY && below(2)) c.at[b] = NULL;
     }
+    if (op->kind == ROW && c.len[KEY] && below(3) == 0) c.at[KEY][0] ^= row_sum(c.at[KEY], c.len[KEY]);
     uint8_t expected = number_of(op->kind, &c);
     if (op->kind == VERIFY) { /* mostly the message's tag, now and then with one bit altered */
         uint8_t whole[16];
@@ -738,12 +865,12 @@ static void memory_case(const struct op *ops, int place)
     for (int b = 0; b < DST; b++)
         if (mprotect(lent[b], lent_size, PROT_READ | PROT_WRITE) != 0) stop("mprotect");
     if (number != expected) wrong(CALL_TEXT "%d, not %d", CALL(op, &c), number, expected);
-    /* outside the destination nothing is written, and after a refusal nothing in it, unless it is *yes */
-    size_t from = c.at[DST] ? (size_t)(c.at[DST] - lent[DST]) : 0, to = from + (number == 0 || op->kind == VERIFY ? c.len[DST] : 0);
+    /* outside the destination nothing is written, and after a refusal nothing in it, unless it is *yes or *out */
+    size_t from = c.at[DST] ? (size_t)(c.at[DST] - lent[DST]) : 0, to = from + (number == 0 || always_sets(op->kind) ? c.len[DST] : 0);
     if (memcmp(lent[DST], margins, from) != 0 || memcmp(lent[DST] + to, margins + to, lent_size - to) != 0)
         wrong(CALL_TEXT "number %d, and bytes written that are not the destination's", CALL(op, &c), number);
-    if (tag && !tag_right(op->kind, &c)) wrong(CALL_TEXT "number %d, and the tag or *yes is wrong", CALL(op, &c), number);
-    if (number != 0) return;
+    if (!made_right(op->kind, &c)) wrong(CALL_TEXT "number %d, and the tag, *yes or *out is wrong", CALL(op, &c), number);
+    if (number != 0 || op->kind == ROW) return;
     /* the same in memory of any kind; and undone there it is the source, if it is no tag */
     struct call plainly = c;
     plainly.at[DST] = copy[0];
@@ -809,12 +936,16 @@ static int all_notice(uint64_t seed, int cases, int about_tags)
 
 static void try_stubs(uint64_t seed)
 {
-    enum { CASES = 150, MORE = 6 * CASES };
-    static const struct { int what; enum kind kind; const char *does; } tag_stubs[] = {
+    enum { CASES = 150, MORE = 7 * CASES };
+    static const struct { int what; enum kind kind; const char *does; } own_stubs[] = {
         {CALLS_3, CMAC, "calls 11 3"}, {CALLS_3, VERIFY, "calls 11 3"}, {ALTERS, CMAC, "alters a bit of the tag"},
         {SAYS_YES, VERIFY, "always says yes"}, {SAYS_NO, VERIFY, "always says no"}, {LOOKS_AT_8, VERIFY, "looks at 8 bytes"},
         {KEEPS, VERIFY, "leaves yes as it was on refusal"}, {TOUCHES, CMAC, "touches the tag on refusal"},
         {TOUCHES, VERIFY, "says yes on refusal"},
+        {SWAPS_13, ROW, "exchanges 4 and 13"}, {SUM_FIRST, ROW, "looks for 13 before 4"}, {SUMS_7, ROW, "XORs seven coefficients"},
+        {ONE_ROW, ROW, "always mixes by the published row"}, {TURNS, ROW, "mixes by g_((j - i) mod 8)"}, {ALTERS, ROW, "alters a bit of the word"},
+        {KEEPS, ROW, "leaves out as it was on refusal"}, {TOUCHES, ROW, "gives another word than zero on refusal"},
+        {MIXES, ROW, "mixes by a row that it refuses"}, {CUTS, ROW, "takes a row's length modulo 256"},
     };
     size_t each[OPS + 1];
     long kept;
@@ -842,10 +973,10 @@ static void try_stubs(uint64_t seed)
     notice(all_notice(seed, MORE, 0), "touches the destination", "on refusal");
     stub.what = SWAPS;
     notice(all_notice(seed, MORE, 0), "exchanges 4 and 5", "");
-    for (size_t i = 0; i < sizeof tag_stubs / sizeof *tag_stubs; i++) {
-        stub.kind = tag_stubs[i].kind;
-        stub.what = tag_stubs[i].what;
-        notice(all_notice(seed, MORE, 1), tag_stubs[i].does, "");
+    for (size_t i = 0; i < sizeof own_stubs / sizeof *own_stubs; i++) {
+        stub.kind = own_stubs[i].kind;
+        stub.what = own_stubs[i].what;
+        notice(all_notice(seed, MORE, is_tag(stub.kind)), own_stubs[i].does, "");
     }
     stub.kind = KINDS;
     kept = failures;
@@ -875,7 +1006,7 @@ int main(int count, char **words)
         }
     lend();
     chance = seed;
-    enum { CALLS = 190102 };
+    enum { CALLS = 262151 };
     long calls = numbers(library, KINDS) + far_lengths(library);
     if (calls != CALLS) wrong("%ld numbers tried, not %d", calls, CALLS);
     no_bytes();

@@ -31,7 +31,7 @@ contents() {
     echo "writable $(readelf -SW "$1" | sed 's/^ *\[ *[0-9]*\] *//' | awk '$7 ~ /W/ { print $1 }' | sort -u | xargs)"
 }
 cat >"$work/contents" <<'END'
-offers labyrinth_cbc_open labyrinth_cbc_seal labyrinth_cmac labyrinth_cmac_verify labyrinth_ctr labyrinth_decipher labyrinth_encipher labyrinth_mix
+offers labyrinth_cbc_open labyrinth_cbc_seal labyrinth_cmac labyrinth_cmac_verify labyrinth_ctr labyrinth_decipher labyrinth_encipher labyrinth_mix labyrinth_mix_row
 needs memcpy memset
 writable 
 END
@@ -120,7 +120,7 @@ for name in $spoilt; do
     [ $? -eq 1 ] || wrong "the example passed over a refusing $name"
 done
 
-# ---- numbers, NULL, runs and tags, stack, lent memory
+# ---- numbers, NULL, runs, tags and rows, stack, lent memory
 gcc -std=gnu11 -O2 $warnings -Wl,-z,now -I target/dist tests/c_interface.c "$archive" -o "$work/c_interface" || { echo "c_interface: not compiled"; exit 1; }
 "$work/c_interface" "$@" || wrong "tests/c_interface.c failed"
 [ $status -eq 0 ] || echo "c_interface: FAILED"

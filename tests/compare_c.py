@@ -5,13 +5,16 @@ docs/COMPARE.md has the lines that they speak. Needs target/dist (make lib) and 
     tests/compare_c.py [--short] [--seed NUMBER] [--archivist COMMAND] [--show CASE]
 
 The cases are made from the seed, which is printed; without one it is another each time. Which number is expected is decided here, from
-documents 01 and 02 (number_of); which bytes, by the archivists' program, or, after a refusal, by what the destination held; whether a tag
-gets a yes, by how it was made, with the modules in tests/archivists, and by the archivists' program. Then it shows that changed answers
-are noticed. --show prints the request of one case and asks nothing."""
+documents 01 and 02 (number_of); which bytes, by the archivists' program, or, after a refusal, by what the destination held, and for a row
+by the zero word; whether a tag gets a yes, by how it was made, with the modules in tests/archivists, and by the archivists' program. Then it
+shows that changed answers are noticed. --show prints the request of one case and asks nothing."""
 import argparse
 import collections
+import functools
+import operator
 import os
 import random
+import re
 import shlex
 import subprocess
 import sys
@@ -28,7 +31,7 @@ DIST = os.path.join(os.path.dirname(HERE), "target", "dist")
 ADAPTER = f"{shlex.quote(sys.executable)} {shlex.quote(os.path.join(HERE, 'archivists_lines.py'))}"
 LIMIT = 1500  # seconds for a program
 
-BLOCKS, CBC, CTR, TAGS = ("encipher", "decipher"), ("cbc_seal", "cbc_open"), ("ctr",), ("cmac", "cmac_verify")
+BLOCKS, CBC, CTR, TAGS = ("encipher", "decipher"), ("cbc_seal", "cbc_open"), ("ctr",), ("cmac", "cmac_verify")  # and mix, mix_row
 OPERATIONS = BLOCKS + CBC + CTR + TAGS
 SIZES = [(n, l) for n in (1, 2, 4) for l in (2, 3, 4)]
 LARGE = 2**64 - 1  # SIZE_MAX
@@ -38,11 +41,12 @@ WRONG_N = (*DEMANDED, 5, 6, 7, 16, 2**8 + 1, 2**16 + 2, 2**32, 2**32 + 2, 2**32 
 WRONG_L = (*(x for x in DEMANDED if x != 3), 1, 5, 6, 2**8 + 2, 2**16 + 3, 2**32 + 2, 2**32 + 3, 2**60 + 2, 2**61 + 3, 2**63 + 4)
 # document 01: mixing 0x1, 0x100 and eight bytes 01
 MIXED = {0x1: 0x0C0F1F0A0F030101, 0x100: 0x0F1F0A0F0301010C, 0x0101010101010101: 0x1A1A1A1A1A1A1A1A}
+PUBLISHED, NEUTRAL, ZERO = bytes.fromhex("0101030f0a1f0f0c"), b"\1" + bytes(7), bytes(8)
 
 # a tag's message is the source, and the tag, made or given, the destination; n is 1; kind is how a given tag was made
 Case = collections.namedtuple("Case", "op n l key start q source destination kind", defaults=[None])
 KINDS = ("right", "one bit flipped", "right in the first bytes", "from the second byte on", "of another key", "of another message")
-Mix = collections.namedtuple("Mix", "op word")
+Mix = collections.namedtuple("Mix", "op word row", defaults=[PUBLISHED])
 
 
 def sizes(op):
@@ -55,9 +59,17 @@ def flipped(data, rng):
     return data[:at] + bytes([data[at] ^ 1 << rng.randrange(8)]) + data[at + 1 :]
 
 
+def xor(data):
+    return functools.reduce(operator.xor, data, 0)
+
+
 def number_of(case):
-    """Document 01, 'Operations and what they turn away', and document 02, Job 1: expansion's numbers, then the operation's own, the first
-    that applies."""
+    """Document 01, 'Operations and what they turn away', and document 02, Jobs 1 and 4: expansion's numbers, then the operation's own, the
+    first that applies. The 4 for a row that isn't eight bytes is the header's."""
+    if case.op == "mix":
+        return 0
+    if case.op == "mix_row":
+        return 4 if len(case.row) != 8 else 13 if xor(case.row) == 0 else 0
     if case.n not in (1, 2, 4):
         return 1
     if case.l not in (2, 3, 4):
@@ -238,18 +250,42 @@ class Maker:
             given = self.pick(n, n, n, n, n, n, *WRONG_N[:5], self.rng.getrandbits(64)), self.pick(l, l, l, l, l, l, *DEMANDED, self.rng.getrandbits(64))
             yield self.case(op, n if op in TAGS else given[0], given[1], self.length(op, n, 6), damage, n, l)
 
+    def word(self):
+        return self.rng.getrandbits(64)
+
     def words(self):
-        for word in [*MIXED, 0, LARGE, *(1 << i for i in range(64)), *(self.rng.getrandbits(64) for _ in self.some(1000, 150))]:
+        for word in [*MIXED, 0, LARGE, *(1 << i for i in range(64)), *(self.word() for _ in self.some(1000, 150))]:
             yield Mix("mix", word)
 
+    def vanishing(self, length):
+        """A row whose bytes XOR to zero, mostly no zero row."""
+        row = self.rng.randbytes(length - 1) if length else b""
+        return row + bytes([xor(row)] * (length > 0))
+
+    def rows(self):
+        """Rows of eight coefficients: the published one, the one that changes no word, the zero row, single coefficients, some that XOR to zero,
+        and any; then rows of other lengths."""
+        made = [(row, given) for row in (PUBLISHED, NEUTRAL, ZERO) for given in (*MIXED, 0, LARGE, *(self.word() for _ in self.some(100, 10)))]
+        for place in range(8):
+            for value in (0x01, 0x02, 0x80, 0xFF, *(self.rng.randrange(1, 256) for _ in self.some(40, 2))):
+                made.append((bytes(place) + bytes([value]) + bytes(7 - place), self.pick(self.word(), 0xFF << 8 * self.rng.randrange(8))))
+        made += [(self.vanishing(8), self.word()) for _ in self.some(500, 50)]
+        made += [(self.rng.randbytes(8), self.word()) for _ in self.some(10000, 300)]
+        for length in (*(length for length in range(21) if length != 8), 2**8 + 8, 2**16 + 8):
+            made += [(row, self.word()) for row in (self.rng.randbytes(length), self.vanishing(length), (PUBLISHED * length)[:length])]
+        for row, given in made:
+            yield Mix("mix_row", given, row)
+
     def all(self):
-        for series in (self.damaged, self.numbers, self.far_lengths, self.valid, self.near, self.tags, self.long, self.anyhow, self.words):
+        for series in (self.damaged, self.numbers, self.far_lengths, self.valid, self.near, self.tags, self.long, self.anyhow, self.words, self.rows):
             yield from series()
 
 
 def request(case):
     if case.op == "mix":
         return f"mix {case.word:016x}\n"
+    if case.op == "mix_row":
+        return f"mix_row {case.row.hex() or '-'} {case.word:016x}\n"
     fields = [case.op] + [case.n] * (case.op not in TAGS) + [case.l, case.key]
     if case.op in CBC + CTR:
         fields.append(case.start)
@@ -261,7 +297,7 @@ def request(case):
 
 def gaps(cases, numbers):
     """What the cases should have and lack."""
-    have = {(case.op, case.n, case.l, number) for case, number in zip(cases, numbers) if case.op != "mix"}
+    have = {(case.op, case.n, case.l, number) for case, number in zip(cases, numbers) if case.op in OPERATIONS}
     need = set()
     for op in OPERATIONS:
         own = {11} if op in TAGS else {4, 5} if op in BLOCKS else {6, 5} if op in CTR else {6, 4, 5}
@@ -271,6 +307,11 @@ def gaps(cases, numbers):
     have |= {(case.op, case.l, len(case.destination), case.kind) for case in cases if case.op in TAGS}
     need |= {("cmac_verify", l, length, kind) for l in (2, 3, 4) for length in range(8, 17) for kind in KINDS}
     need |= {(op, l, length, kind) for op, kind in (("cmac", None), ("cmac_verify", "right")) for l in (2, 3, 4) for length in range(20)}
+    rows = {(case.row, number) for case, number in zip(cases, numbers) if case.op == "mix_row"}
+    have |= {("mix_row", len(row), number) for row, number in rows} | {("mix_row", row.hex(), number) for row, number in rows}
+    have |= {("mix_row", 8 - row.count(0), "coefficients, and XOR to zero") for row, number in rows if number == 13}
+    need |= {("mix_row", length, 4) for length in range(21) if length != 8} | {("mix_row", 8, "coefficients, and XOR to zero")}
+    need |= {("mix_row", PUBLISHED.hex(), 0), ("mix_row", NEUTRAL.hex(), 0), ("mix_row", ZERO.hex(), 13)}
     return sorted(need - have, key=str)
 
 
@@ -318,7 +359,7 @@ def ask_theirs(command, cases, requests, admitted, place):
     """The answers by the case's number. The requests are dealt out, the long ones first, so that all processes have as much to do."""
     def cost(i):
         case = cases[i]
-        return 1 if case.op == "mix" else 1 + len(case.source) // (16 * case.n) * (2 if case.n == 4 else 1)
+        return 1 + len(case.source) // (16 * case.n) * (2 if case.n == 4 else 1) if case.op in OPERATIONS else 1
 
     count = os.cpu_count() or 1
     parts, costs = [[] for _ in range(count)], [0] * count
@@ -350,6 +391,12 @@ def difference(case, number, ours, theirs):
         except ValueError:
             return f"no words: {ours[:80]!r}, {theirs[:80]!r}"
         return None if len(set(values)) == 1 else f"ours {ours}, theirs {theirs}"
+    if case.op == "mix_row":
+        if number == 0 and not re.fullmatch("0 [0-9a-f]{16}", theirs):
+            return f"theirs answers {theirs[:80]!r}"
+        word = MIXED.get(case.word) if case.row == PUBLISHED else case.word if case.row == NEUTRAL else None
+        want = f"{number} {0:016x}" if number else theirs if word is None else f"0 {word:016x}"
+        return None if ours == want and (number or theirs == want) else f"ours answers {ours[:80]!r}, theirs {theirs[:80]!r}, not {want!r}"
     if case.op == "cmac_verify":
         want = f"{number} {int(number == 0 and case.kind == 'right')}"
         if number == 0 and theirs != want:
@@ -387,7 +434,8 @@ def changed_number(line, number):
 
 
 def changed_word(line, rng):
-    return f"{int(line, 16) ^ 1 << rng.randrange(64):016x}"
+    number, space, word = line.rpartition(" ")
+    return f"{number}{space}{int(word, 16) ^ 1 << rng.randrange(64):016x}"
 
 
 def changed_answers(cases, numbers, ours, theirs, rng):
@@ -422,10 +470,19 @@ def changed_answers(cases, numbers, ours, theirs, rng):
         tags = [i for i, case in enumerate(cases) if case.op == "cmac_verify" and numbers[i] == 0 and (case.kind == "right") == right]
         for at, side, answer in zip(rng.sample([i for i in tags if i not in changed], 4), (theirs, ours, ours, ours), answers):
             change(f"{side[at]} called {answer}", at, side, answer)
-    i = iter(rng.sample([i for i, case in enumerate(cases) if case.op == "mix"], 2))
-    for side, name in ((theirs, "theirs"), (ours, "ours")):
-        at = next(i)
-        change(f"a word of {name}", at, side, changed_word(side[at], rng))
+    for op in ("mix", "mix_row"):
+        i = iter(rng.sample([i for i, case in enumerate(cases) if case.op == op and numbers[i] == 0], 6))
+        for side, name in ((theirs, "theirs"), (ours, "ours")):
+            at = next(i)
+            change(f"a word of {name}", at, side, changed_word(side[at], rng))
+            for number in (4, 13) if op == "mix_row" else ():
+                at = next(i)
+                change(f"a number of {name}", at, side, changed_number(side[at], number))
+    for number in (4, 13):
+        rows = [i for i, case in enumerate(cases) if case.op == "mix_row" and numbers[i] == number]
+        for at, other in zip(rng.sample(rows, 3), (0, 17 - number, None)):
+            line = changed_word(ours[at], rng) if other is None else changed_number(ours[at], other)
+            change(f"a {number} of ours for a row called {line}", at, ours, line)
     found = differences(cases, numbers, ours, theirs)
     wrong = [f"not noticed in case {i}: {name}" for i, name in changed.items() if i not in found]
     return len(changed), wrong + [f"differs without a change: case {i}" for i in found if i not in changed]
@@ -445,7 +502,7 @@ def main():
         print(request(cases[chosen.show]), end="")
         return
     print(f"compare_c: seed {seed}{', short' if chosen.short else ''}", flush=True)
-    numbers = [0 if case.op == "mix" else number_of(case) for case in cases]
+    numbers = [number_of(case) for case in cases]
     requests = [request(case) for case in cases]
     admitted = [i for i, number in enumerate(numbers) if number == 0]
     failures = [f"no case of {gap}" for gap in gaps(cases, numbers)]
@@ -460,7 +517,7 @@ def main():
     failures += wrong
     for failure in failures[:20]:
         print(f"compare_c: FAILED: {failure}")
-    length = sum(len(cases[i].source) for i in admitted if cases[i].op != "mix")
+    length = sum(len(cases[i].source) for i in admitted if cases[i].op in OPERATIONS)
     print(
         f"compare_c: seed {seed}: {len(cases)} cases, {len(admitted)} admitted ({length} bytes) and {len(cases) - len(admitted)} refused; "
         f"{len(found)} differ; {changed - len(wrong)} of {changed} changed answers noticed; {time.monotonic() - began:.0f} s"

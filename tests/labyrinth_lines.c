@@ -1,6 +1,6 @@
 /* Answers the requests of docs/COMPARE.md with the library, a line for a line. Every buffer stands between two margins, at all eight
-   alignments in turn; a buffer of no bytes is NULL in every other request. If a function wrote to a margin or to a buffer that isn't
-   its destination, this ends with status 1. */
+   alignments in turn, but for out, which is aligned; a buffer of no bytes is NULL in every other request. If a function wrote to a margin
+   or to a buffer that isn't its destination, this ends with status 1. */
 #define _POSIX_C_SOURCE 200809L
 #include <stdarg.h>
 #include <stdint.h>
@@ -83,11 +83,23 @@ static void answer(unsigned number, struct lent dst) {
     putchar('\n');
 }
 
-static void mix(const char *word) {
+static uint64_t word_of(const char *hex) {
     uint64_t w = 0;
-    if (strlen(word) != 16) stop("a word has 16 digits");
-    for (int i = 0; i < 16; i++) w = w << 4 | digit(word[i]);
-    printf("%016llx\n", (unsigned long long)labyrinth_mix(w));
+    if (strlen(hex) != 16) stop("a word has 16 digits");
+    for (int i = 0; i < 16; i++) w = w << 4 | digit(hex[i]);
+    return w;
+}
+
+static void mix(const char *word) { printf("%016llx\n", (unsigned long long)labyrinth_mix(word_of(word))); }
+
+/* what out points to holds ones before the call */
+static void mix_row(const char *hex, const char *word) {
+    struct lent row = lend(hex);
+    uint64_t mark = 0x0101010101010101u * MARK, out[3] = {mark, UINT64_MAX, mark};
+    uint8_t r = labyrinth_mix_row(row.pointer, row.length, word_of(word), &out[1]);
+    printf("%u %016llx\n", r, (unsigned long long)out[1]);
+    if (out[0] != mark || out[2] != mark) stop("a byte was written beside out");
+    take_back(row, 0);
 }
 
 /* fields: the operation, n, l, key, then source and destination */
@@ -147,6 +159,7 @@ int main(void) {
         request++;
         for (char *f = strtok(line, " \n"); f && count <= FIELDS; f = strtok(NULL, " \n")) fields[count++] = f;
         if (count == 2 && strcmp(fields[0], "mix") == 0) mix(fields[1]);
+        else if (count == 3 && strcmp(fields[0], "mix_row") == 0) mix_row(fields[1], fields[2]);
         else if (count == 5 && (strcmp(fields[0], "cmac") == 0 || strcmp(fields[0], "cmac_verify") == 0)) tag(fields);
         else if (count == 6 && (strcmp(fields[0], "encipher") == 0 || strcmp(fields[0], "decipher") == 0)) one_block(fields);
         else if (count == 7 && (strcmp(fields[0], "cbc_seal") == 0 || strcmp(fields[0], "cbc_open") == 0)) run(fields, 0);

@@ -1,4 +1,5 @@
-// What the benchmark (bench/bench.c) times: many blocks, each by itself, under one schedule, with the tables made once; runs; and tags.
+// What the benchmark (bench/bench.c) times: many blocks, each by itself, under one schedule, with the tables made once; runs; tags; and
+// the merged table of a row.
 // It only states what makes it safe: the contracts of the cipher and the runs say what the bytes become.
 use labyrinth::WorkingKey;
 ghost use mathlib.Core.Path.{_≡_};
@@ -115,4 +116,10 @@ pub extern "C" fn sigourta_cmac(words: &[u64; 32], message: &[u8], tag: &mut [u8
 pub extern "C" fn sigourta_cmac_verify(words: &[u64; 32], message: &[u8], tag: &[u8]) -> u8 {
     let v = cmac::verify(key(1, words), message, tag);
     if v.yes { 1 } else { 0 }
+}
+
+// Makes the merged table of a row.
+#[no_mangle]
+pub extern "C" fn sigourta_make_table(row: &[u8; 8], table: &mut [u64]) -> u8 {
+    rows::make_table(*row, table)
 }

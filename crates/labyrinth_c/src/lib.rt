@@ -1,4 +1,5 @@
-// The library as C sees it: each function expands a key, does one operation and keeps nothing. include/labyrinth.h declares them.
+// The library as C sees it: each function that takes a key expands it, does one operation and keeps nothing; two mix a word.
+// include/labyrinth.h declares them.
 ghost use mathlib.Core.Path.{_≡_};
 ghost use Prim.Native.Nat.{_*_};
 ghost use lib.ListN.{length};

@@ -201,14 +201,15 @@ published-table g before after h p r l =
 pub row-numbers : RowNumbers
 row-numbers g w = go (eqb (rowSum g) 0) refl
   where
-    go : (b : Bool) → eqb (rowSum g) 0 ≡ b → RowNumber g (mixed g w (rowRefusal g))
+    go : (b : Bool) → eqb (rowSum g) 0 ≡ b → RowNumber g w (mixed g w (rowRefusal g))
     go true p =
         let z : rowSum g ≡ 0 = eqb-true (rowSum g) 0 p in
         let m = mixed-refused g w (rowRefusal g) (λ e. row-iff g .0 e z) in
         inl (ap (λ (a : Mixed). a .number) m ∙ row-zero g z, ap (λ (a : Mixed). a .word) m, z)
     go false p =
         let h : rowSum g ≡ 0 → ⊥ = λ z. false≢true (sym p ∙ eq-eqb (rowSum g) 0 z) in
-        inr (ap (λ (a : Mixed). a .number) (mixed-done g w (row-iff g .1 h)), h)
+        let m = mixed-done g w (row-iff g .1 h) in
+        inr (ap (λ (a : Mixed). a .number) m, ap (λ (a : Mixed). a .word) m, h)
 
 pub table-numbers : TableNumbers
 table-numbers g room = go (eqb (rowSum g) 0) (eqb room 256) refl refl

@@ -199,13 +199,13 @@ abbrev pub LooksUp : List ℕ → ℕ → List ℕ → Type 0
 LooksUp g answer after = answer ≡ 0 → (w : ℕ) → lookup after w ≡ by g (eachByte (sub table1) w)
 
 -- "Mixing, which took every value until now, and the table refuse a row whose coefficients XOR to zero with 13, returning the zero word or leaving
--- the table buffer as it was; then a table buffer that isn't 256 words with 5."
-abbrev pub RowNumber : List ℕ → Mixed → Type 0
-RowNumber g answer =
-    ((answer .number ≡ 13) × (answer .word ≡ 0) × (rowSum g ≡ 0)) ⊎ ((answer .number ≡ 0) × (rowSum g ≡ 0 → ⊥))
+-- the table buffer as it was; then a table buffer that isn't 256 words with 5." What a refusal leaves in a buffer is demand 1's `BuffersKept`
+abbrev pub RowNumber : List ℕ → ℕ → Mixed → Type 0
+RowNumber g w answer =
+    ((answer .number ≡ 13) × (answer .word ≡ 0) × (rowSum g ≡ 0)) ⊎ ((answer .number ≡ 0) × (answer .word ≡ mix g w) × (rowSum g ≡ 0 → ⊥))
 
 abbrev pub RowNumbers : Type 0
-RowNumbers = (g : List ℕ) (w : ℕ) → RowNumber g (mixed g w (rowRefusal g))
+RowNumbers = (g : List ℕ) (w : ℕ) → RowNumber g w (mixed g w (rowRefusal g))
 
 abbrev pub TableNumber : List ℕ → ℕ → ℕ → Type 0
 TableNumber g room answer =

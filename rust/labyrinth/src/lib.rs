@@ -103,10 +103,12 @@ extern "C" {
         yes: *mut u8,
     ) -> u8;
     fn labyrinth_mix(word: u64) -> u64;
+    fn labyrinth_mix_row(row: *const u8, row_len: usize, word: u64, out: *mut u64) -> u8;
 }
 
 /// Why the library refused: the number of documents 01 and 02. The destination, or the tag to be made, then holds what it held before.
-/// (Document 02's 12, a working key of another n than 1 for a tag, can't come about: a [`TagKey`] has no n.)
+/// (Document 02's 12, a working key of another n than 1 for a tag, can't come about: a [`TagKey`] has no n. Nor can the library's 4 for
+/// a row that isn't eight bytes: [`mix_row`] takes no other.)
 #[derive(Clone, Copy, Debug, PartialEq, Eq, Hash)]
 #[non_exhaustive]
 pub enum Error {
@@ -124,6 +126,8 @@ pub enum Error {
     StartLength,
     /// 11: the tag isn't 8 to 16 bytes.
     TagLength,
+    /// 13: the row's coefficients XOR to zero.
+    RowSum,
     /// Another number, which this crate doesn't know.
     Unknown(u8),
 }
@@ -139,6 +143,7 @@ impl Error {
             Error::DestinationLength => 5,
             Error::StartLength => 6,
             Error::TagLength => 11,
+            Error::RowSum => 13,
             Error::Unknown(number) => number,
         }
     }
@@ -154,6 +159,7 @@ impl fmt::Display for Error {
             Error::DestinationLength => "the destination isn't 16n bytes, or for CBC and CTR isn't as long as the source",
             Error::StartLength => "the start block isn't 16n bytes",
             Error::TagLength => "the tag isn't 8 to 16 bytes",
+            Error::RowSum => "the row's coefficients XOR to zero",
             Error::Unknown(_) => "a number that the crate labyrinth doesn't know",
         };
         write!(f, "refused with {}: {words}", self.number())
@@ -172,6 +178,7 @@ fn answer(number: u8) -> Result<(), Error> {
         5 => Err(Error::DestinationLength),
         6 => Err(Error::StartLength),
         11 => Err(Error::TagLength),
+        13 => Err(Error::RowSum),
         other => Err(Error::Unknown(other)),
     }
 }
@@ -224,8 +231,8 @@ impl fmt::Debug for TagKey<'_> {
 type Block = unsafe extern "C" fn(usize, usize, *const u8, usize, *const u8, usize, *mut u8, usize) -> u8;
 type Cbc = unsafe extern "C" fn(usize, usize, *const u8, usize, *const u8, usize, *const u8, usize, *mut u8, usize) -> u8;
 
-// Of every call below: a slice's pointer is valid for its length, and dst, or the tag to be made, borrowed mutably, and yes, a variable,
-// overlap nothing else. That is all that the library asks of its caller; lengths and sizes may be anything.
+// Of every call below: a slice's pointer is valid for its length, and dst, or the tag to be made, borrowed mutably, and yes and out,
+// variables, overlap nothing else. That is all that the library asks of its caller; lengths and sizes may be anything.
 impl Key<'_> {
     fn block(&self, map: Block, src: &[u8], dst: &mut [u8]) -> Result<(), Error> {
         let Key { n, l, bytes: key } = *self;
@@ -307,6 +314,15 @@ impl TagKey<'_> {
 /// The article's mixing of a word.
 pub fn mix(word: u64) -> u64 {
     unsafe { labyrinth_mix(word) }
+}
+
+/// Mixing of a word by a row of eight coefficients, g_0 first, in place of the published `01 01 03 0F 0A 1F 0F 0C`, in the article's field:
+/// byte i, byte 0 the lowest, is the XOR over j of g_((i - j) mod 8) times byte j of the word. Refused with 13 if the coefficients XOR to
+/// zero.
+pub fn mix_row(row: &[u8; 8], word: u64) -> Result<u64, Error> {
+    let mut out = 0;
+    answer(unsafe { labyrinth_mix_row(row.as_ptr(), row.len(), word, &mut out) })?;
+    Ok(out)
 }
 
 #[cfg(test)]
@@ -411,7 +427,7 @@ mod tests {
             let error = answer(number).unwrap_err();
             assert_eq!(error.number(), number);
             assert!(error.to_string().starts_with(&format!("refused with {number}: ")));
-            assert_eq!(matches!(error, Error::Unknown(_)), number > 6 && number != 11);
+            assert_eq!(matches!(error, Error::Unknown(_)), number > 6 && number != 11 && number != 13);
         }
     }
 
@@ -420,6 +436,27 @@ mod tests {
         assert_eq!(mix(0x1), 0x0C0F1F0A0F030101);
         assert_eq!(mix(0x100), 0x0F1F0A0F0301010C);
         assert_eq!(mix(0x0101010101010101), 0x1A1A1A1A1A1A1A1A);
+    }
+
+    #[test]
+    fn mixing_by_a_row() {
+        let published = [0x01, 0x01, 0x03, 0x0F, 0x0A, 0x1F, 0x0F, 0x0C];
+        for word in (0..64).map(|i| 0x0123456789ABCDEF_u64.rotate_left(i)).chain([0, 1, 0x100, u64::MAX]) {
+            assert_eq!(mix_row(&published, word), Ok(mix(word)));
+            assert_eq!(mix_row(&[1, 0, 0, 0, 0, 0, 0, 0], word), Ok(word));
+            // g_k alone, 02: the word rotated by k bytes, each byte doubled modulo 12D
+            let doubled = ((word & 0x7F7F7F7F7F7F7F7F) << 1) ^ ((word >> 7 & 0x0101010101010101) * 0x2D);
+            for k in 0..8 {
+                let mut row = [0; 8];
+                row[k] = 2;
+                assert_eq!(mix_row(&row, word), Ok(doubled.rotate_left(8 * k as u32)));
+                row[(k + 3) % 8] = 2;
+                assert_eq!(mix_row(&row, word), Err(Error::RowSum));
+            }
+            assert_eq!(mix_row(&[0; 8], word), Err(Error::RowSum));
+            assert_eq!(mix_row(&[1, 2, 4, 8, 16, 32, 64, 127], word), Err(Error::RowSum));
+        }
+        assert_eq!(mix_row(&[0, 1, 2, 3, 4, 5, 6, 8], 1), Ok(0x0806050403020100));
     }
 
     #[test]
