@@ -257,9 +257,8 @@ uint64_t lab_mix_by_matrix(uint64_t w) {
 }
 
 INLINE uint64_t times_each(uint64_t w, uint8_t c) {
-    int end = c ? 32 - __builtin_clz(c) : 0;
     uint64_t value = 0;
-    for (int turns = 0; turns < end; turns++) {
+    for (int k = 0; k < 8; k++) {
         value ^= (c & 1) * w;
         uint64_t h = w >> 7 & 0x0101010101010101;
         w = (w & 0x7F7F7F7F7F7F7F7F) << 1 ^ h * 0x2D;

@@ -14,8 +14,8 @@ void lab_schedule(int n, const uint64_t *w, int back, uint64_t *k);
 void lab_run(enum lab_shape shape, enum lab_kind kind, int n, const uint64_t *k, const uint8_t *start, const uint8_t *src, uint8_t *dst, size_t blocks);
 /* CMAC of a message at n = 1, block by block, by one table or by eight */
 void lab_tag(enum lab_shape shape, const uint64_t *k, const uint8_t *message, size_t length, uint8_t tag[16]);
-/* mixing by the published row's matrix, product by product; by any row, all bytes of the word at once; and the merged table of a row. The loop
-   of a product ends after the multiplier's highest one */
+/* mixing by the published row's matrix, product by product, the loop of each ending after the multiplier's highest one; by any row, all bytes
+   of the word at once, eight turns always; and the merged table of a row, made so too */
 extern const uint8_t lab_row[8];
 uint64_t lab_mix_by_matrix(uint64_t w);
 uint64_t lab_mix(const uint8_t row[8], uint64_t w);

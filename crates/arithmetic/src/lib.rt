@@ -81,20 +81,20 @@ fn times_x_each(w: u64) -> u64
     ((w & 0x7F7F7F7F7F7F7F7F) << 1) ^ h ^ (h << 2) ^ (h << 3) ^ (h << 5)
 }
 
-// Every byte of a word multiplied by c. The loop ends after the highest one of c.
+// Every byte of a word multiplied by c. Eight turns always: mixing by a row multiplies one word by eight coefficients, and of loops with the
+// same end the compiler makes one that has the powers of x once.
 pub fn times_each(w: u64, c: u8) -> u64
     ensures { λ r. ⌜ r ≡ scale c w ⌝ }
 {
-    let end = bit_length(c);
     let mut value = 0u64;
     let mut x = w;
     let mut y = c;
-    let mut turns = 0u32;
-    while turns < end {
+    let mut k = 0usize;
+    while k < 8 {
         value = value ^ ((y % 2) as u64 * x);
         x = times_x_each(x);
         y = y / 2;
-        turns += 1;
+        k += 1;
     }
     value
 }

@@ -8,21 +8,18 @@ use Rattle.field.specs.Field.{timesX}
 use Rattle.field.proofs.Xor.{parity}
 use Rattle.field.proofs.Words.{each-lt}
 use Rattle.field.proofs.Field.{digit-lt, timesX-lt}
+use Rattle.field.proofs.Forms.{xorSum-end}
 use Rattle.field.proofs.Scale.{shiftEach, shiftEach-zero, shiftEach-next, scale-bits}
-use Rattle.arithmetic.specs.BitLength.{bitLength}
-use Rattle.arithmetic.proofs.Turns.{Turned, turned-none, turned-next, turned-end}
+use Rattle.arithmetic.proofs.Turns.{Turned, turned-none, turned-next}
 use borrow.Author.Needs.{needs}
 use Rattle.arithmetic.proofs.times_each.Statement.{statement}
 use Rattle.arithmetic.proofs.times_each.Tie as tie
 
 abbrev Inv-loop : tie.InvT-loop
-Inv-loop w c end value₀ x₀ y₀ turns₀ value x y turns = (turns ≤ end) × (x < 2 ^ 64) × Turned (shiftEach w) c turns value x y
+Inv-loop w c value₀ x₀ y₀ k₀ value x y k = (k ≤ 8) × (x < 2 ^ 64) × Turned (shiftEach w) c k value x y
 
 abbrev μ-loop : tie.MeasureT-loop
-μ-loop w c end value₀ x₀ y₀ turns₀ value x y turns = end - turns
-
-bit-length-requires : tie.Need-bit-length-requires Inv-loop μ-loop
-bit-length-requires c κs = search needs
+μ-loop w c value₀ x₀ y₀ k₀ value x y k = 8 - k
 
 loop-holds : tie.Need-loop-holds Inv-loop μ-loop
 loop-holds c = (omega arith, omega arith, turned-none _ _ (shiftEach-zero _ (omega arith)))
@@ -36,8 +33,8 @@ mul-value c = record { fits = digit-lt (parity (c .before .loop .y)) (c .before 
 times-x-each-requires : tie.Need-times-x-each-requires Inv-loop μ-loop
 times-x-each-requires c κs = search needs
 
-add-turns : tie.Need-add-turns Inv-loop μ-loop
-add-turns c = search needs
+add-k : tie.Need-add-k Inv-loop μ-loop
+add-k c = search needs
 
 loop-less : tie.Need-loop-less Inv-loop μ-loop
 loop-less c = search needs
@@ -47,15 +44,14 @@ loop-again c =
     let l = c .before .before .loop in (
       omega arith,
       rw (c .times-x-each .ensures) (each-lt timesX (λ x h. timesX-lt x) (l .x)),
-      turned-next _ _ (l .turns) (l .inv .2) (shiftEach-next _ (l .turns) (c .times-x-each .ensures ∙ ap (eachByte timesX) (l .inv .2 .power))),
+      turned-next _ _ (l .k) (l .inv .2) (shiftEach-next _ (l .k) (c .times-x-each .ensures ∙ ap (eachByte timesX) (l .inv .2 .power))),
     )
 
 returns : tie.Need-returns Inv-loop μ-loop
 returns c =
     let l = c .before .loop in
-    let a = c .before .before .before .args in
-    let e : l .turns ≡ bitLength 8 (a .c) = omega arith in
-    turned-end _ _ e (l .inv .2) ∙ sym (scale-bits (a .c) (a .w))
+    let e : l .k ≡ 8 = omega arith in
+    xorSum-end _ e (l .inv .2 .sum) ∙ sym (scale-bits _ _)
 
 pub times-each-spec : {M : Type 1} → statement M
 times-each-spec =
@@ -63,12 +59,11 @@ times-each-spec =
     (tie.spec
     Inv-loop
     μ-loop
-    bit-length-requires
     loop-holds
     cast-value
     mul-value
     times-x-each-requires
-    add-turns
+    add-k
     loop-less
     loop-again
     returns)
