@@ -1,8 +1,7 @@
 -- Laws of `scale`, every byte of a word multiplied by one byte: its bytes, and its sum over the multiplier's bits.
 -- Assumes nothing.
-use mathlib.Core.Path.{_≡_, refl, sym, ap, ap₂, _∙_}
-use Prim.Native.Nat.{ℕ, zero, suc, _+_, _*_, _/_, _%_, _^_, _≤_, _<_}
-use native.Mathlib.Nat.{mod-eq-of-lt}
+use mathlib.Core.Path.{_≡_, sym, ap, _∙_}
+use Prim.Native.Nat.{ℕ, _+_, _*_, _/_, _%_, _^_, _<_}
 use native.Mathlib.Numerals.{add-one}
 use native.Mathlib.Omega.{arith}
 use Rattle.field.specs.Lists.{xorSum}
@@ -12,7 +11,7 @@ use Rattle.field.specs.Mixing.{scale}
 use Rattle.field.proofs.Xor.{parity, digit-into}
 use Rattle.field.proofs.Field.{shift-lt, mul-lt, digit-lt}
 use Rattle.field.proofs.Sums.{xorSum-cong, xorSum-lt, into}
-use Rattle.field.proofs.Words.{byte-xor, join-byte, word-ext, each-lt, byte-each, each-each}
+use Rattle.field.proofs.Words.{byte-xor, word-ext, each-lt, byte-each, each-each}
 
 pub scale-lt : (c w : ℕ) → scale c w < 2 ^ 64
 unfolding scale

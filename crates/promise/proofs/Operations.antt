@@ -1,13 +1,10 @@
 -- The operations do what the demands and the change requests say: what the contract of each tells its caller, for all arguments, is the statement; and each function
 -- meets its contract.
 -- Assumes nothing.
-use Prim.Native.Nat.{ℕ}
-use mathlib.Core.Path.{_≡_, sym, ap, _∙_}
+use mathlib.Core.Path.{sym, ap, _∙_}
 use contract.Lifetimes.{Lfts}
 use borrow.Author.Tests.{eq-eqb, eqb-true}
 use lib.ListN.{length}
-use Rattle.field.specs.Mixing.{mix}
-use Rattle.field.specs.Published.{row}
 use Rattle.modes.specs.Refusals.{cbcRefusal, ctrRefusal, cmacRefusal}
 use Rattle.cmac.specs.declared.Verified.{Verified}
 use Rattle.promise.specs.Demands.{Steps, WorksTape, Expands, Enciphers, Deciphers, SealsCbc, OpensCbc, RunsCtr, ComesBack}

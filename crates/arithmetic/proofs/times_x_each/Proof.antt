@@ -2,7 +2,6 @@
 -- Assumes nothing.
 use Rattle.field.proofs.Forms.{timesXEach-code}
 use native.Mathlib.Omega.{arith}
-use borrow.Author.Needs.{needs}
 use Rattle.arithmetic.proofs.times_x_each.Statement.{statement}
 use Rattle.arithmetic.proofs.times_x_each.Tie as tie
 

@@ -1,7 +1,7 @@
 -- After k turns the word is the XOR over the coefficients below k.
 -- Assumes nothing.
 use mathlib.Core.Path.{_≡_, refl, sym, ap₂, _∙_}
-use Prim.Native.Nat.{ℕ, _≤_, _-_, _*_, _%_}
+use Prim.Native.Nat.{_≤_, _-_, _*_}
 use native.Mathlib.Omega.{arith}
 use lib.ListN.{getD}
 use Rattle.field.specs.Lists.{xorSum}

@@ -2,7 +2,6 @@
 -- Assumes nothing.
 use mathlib.Core.Path.{sym, ap, _∙_}
 use Prim.Native.Nat.{ℕ}
-use Rattle.rows.specs.declared.Mixed.{Mixed}
 use Rattle.rows.specs.Rows.{mixed}
 use Rattle.rows.proofs.Rows.{row-zero, row-iff, mixed-done}
 use borrow.Author.Needs.{needs}
