@@ -22,7 +22,8 @@ use Rattle.field.proofs.Xor.{xors, Additive}
 use Rattle.field.proofs.Lists.{getD-tabulate, tabulate-cong}
 use Rattle.field.proofs.Field.{mul-xor-l, mul-xor-r, mul-assoc, mul-comm, mul-lt, one-mul, zero-mul, mul-zero}
 use Rattle.field.proofs.Sums.{xorSum-cong, xorSum-zero, into, xorSum-swap, xorSum-only, xorSum-square}
-use Rattle.field.proofs.Words.{byte-lt, byte-each, each-lt, word-ext}
+use Rattle.field.proofs.Words.{byte-lt, word-ext}
+use Rattle.field.proofs.Scale.{scale-lt, byte-scale}
 use Rattle.field.proofs.Mixing.{conv, byte-mix, mix-lt, mix-mix, mix-cong}
 
 abbrev square : ℕ → ℕ
@@ -124,15 +125,15 @@ placed-eight h =
     ∙ sym (into (pick (eqb 0 i)) (pick-xor (eqb 0 i)) 8 h))
 
 mix-single : (c w : ℕ) → mix (single c) w ≡ scale c w
-unfolding conv single scale pick
+unfolding conv single pick
 mix-single c w =
-    word-ext (mix (single c) w) (scale c w) (mix-lt (single c) w) (each-lt (λ x. mul x c) (λ x l. mul-lt x c) w)
+    word-ext (mix (single c) w) (scale c w) (mix-lt (single c) w) (scale-lt c w)
     (λ i l. byte-mix (single c) w i l
     ∙ xorSum-only 8 (λ j. mul (byte w j) (getD (single c) ((i + 8 - j) % 8) 0)) i l
     (λ j m q. ap (mul (byte w j)) (at ((i + 8 - j) % 8) (omega arith)
     ∙ ap (λ (b : Bool). pick b c) (ne-eqb 0 ((i + 8 - j) % 8) (λ (e : 0 ≡ (i + 8 - j) % 8). q (omega arith)))) ∙ mul-zero (byte w j))
     ∙ ap (mul (byte w i)) (at ((i + 8 - i) % 8) (omega arith) ∙ ap (λ (b : Bool). pick b c) (eq-eqb 0 ((i + 8 - i) % 8) (omega arith)))
-    ∙ sym (byte-each (λ x. mul x c) (λ x l. mul-lt x c) w i l))
+    ∙ sym (byte-scale c w i l))
   where
     at : (k : ℕ) → k < 8 → getD (single c) k 0 ≡ pick (eqb 0 k) c
     at k l = getD-tabulate 8 (λ i. pick (eqb 0 i) c) 0 k l

@@ -37,24 +37,27 @@ rotl-code w s h hw =
 pub timesX-code : (a : ℕ) → a < 2 ^ 8 → bitXor (a * 2 % 2 ^ 8) (a / 2 ^ 7 * 0x2D) ≡ timesX a
 timesX-code = agree 256 (λ a. bitXor (a * 2 % 2 ^ 8) (a / 2 ^ 7 * 0x2D)) timesX (unfold timesX in tt)
 
--- the same at each byte of a word: ((w & 7F..7F) << 1) ^ h ^ (h << 2) ^ (h << 3) ^ (h << 5), h being the bytes' highest bits, (w >> 7) & 01..01
+-- k places up
 abbrev up : ℕ → ℕ → ℕ
 up k x = x * 2 ^ k % 2 ^ 64
 
+-- the highest bit of each byte, at its lowest place
 abbrev highest : ℕ → ℕ
 highest w = bitAnd (w / 2 ^ 7) 0x0101010101010101
 
-abbrev lowest : ℕ → ℕ
-lowest w = up 1 (bitAnd w 0x7F7F7F7F7F7F7F7F)
+-- the other bits, one place up
+abbrev others : ℕ → ℕ
+others w = up 1 (bitAnd w 0x7F7F7F7F7F7F7F7F)
 
+-- times x at each byte of a word: ((w & 7F..7F) << 1) ^ h ^ (h << 2) ^ (h << 3) ^ (h << 5), h being (w >> 7) & 01..01
 abbrev pub timesXEach : ℕ → ℕ
-timesXEach w = bitXor (bitXor (bitXor (bitXor (lowest w) (highest w)) (up 2 (highest w))) (up 3 (highest w))) (up 5 (highest w))
+timesXEach w = bitXor (bitXor (bitXor (bitXor (others w) (highest w)) (up 2 (highest w))) (up 3 (highest w))) (up 5 (highest w))
 
 timesXEach-xor : Additive timesXEach
-timesXEach-xor = both-xor three (λ w. up 5 (highest w)) (both-xor two (λ w. up 3 (highest w)) (both-xor one (λ w. up 2 (highest w)) (both-xor lowest highest lowest-xor highest-xor) (above 2)) (above 3)) (above 5)
+timesXEach-xor = both-xor three (λ w. up 5 (highest w)) (both-xor two (λ w. up 3 (highest w)) (both-xor one (λ w. up 2 (highest w)) (both-xor others highest others-xor highest-xor) (above 2)) (above 3)) (above 5)
   where
     one : ℕ → ℕ
-    one w = bitXor (lowest w) (highest w)
+    one w = bitXor (others w) (highest w)
 
     two : ℕ → ℕ
     two w = bitXor (one w) (up 2 (highest w))
@@ -68,8 +71,8 @@ timesXEach-xor = both-xor three (λ w. up 5 (highest w)) (both-xor two (λ w. up
     highest-xor : Additive highest
     highest-xor = after-xor (λ x. bitAnd x 0x0101010101010101) (λ w. w / 2 ^ 7) (and-xor 0x0101010101010101) (λ a b. xor-shr a b 7)
 
-    lowest-xor : Additive lowest
-    lowest-xor = after-xor (up 1) (λ w. bitAnd w 0x7F7F7F7F7F7F7F7F) (up-xor 1) (and-xor 0x7F7F7F7F7F7F7F7F)
+    others-xor : Additive others
+    others-xor = after-xor (up 1) (λ w. bitAnd w 0x7F7F7F7F7F7F7F7F) (up-xor 1) (and-xor 0x7F7F7F7F7F7F7F7F)
 
     above : (k : ℕ) → Additive (λ w. up k (highest w))
     above k = after-xor (up k) highest (up-xor k) highest-xor
