@@ -4,7 +4,7 @@ ghost use mathlib.Core.Path.{_≡_};
 ghost use Prim.Native.Nat.{_*_};
 ghost use lib.ListN.{length};
 ghost use Rattle.field.specs.Mixing.{mix};
-ghost use Rattle.field.specs.Published as published;
+ghost use Rattle.field.specs.Published.{row};
 ghost use Rattle.labyrinth.specs.Cipher.{article};
 ghost use Rattle.labyrinth.specs.Keys.{E, U};
 ghost use Rattle.labyrinth.specs.Refusals.{blockRefusal, outcome};
@@ -160,7 +160,7 @@ pub extern "C" fn labyrinth_cmac_verify(
 // Mixes a word by the published row.
 #[no_mangle]
 pub extern "C" fn labyrinth_mix(word: u64) -> u64
-    ensures { λ r. ⌜ r ≡ mix published.row word ⌝ }
+    ensures { λ r. ⌜ r ≡ mix row word ⌝ }
 {
     let m = rows::mix(tables::row(), word);
     m.word
