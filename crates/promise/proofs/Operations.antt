@@ -2,14 +2,17 @@
 -- meets its contract.
 -- Assumes nothing.
 use mathlib.Core.Path.{sym, ap, _∙_}
+use mathlib.Core.List.{List}
+use Prim.Native.Nat.{ℕ}
 use contract.Lifetimes.{Lfts}
 use borrow.Author.Tests.{eq-eqb, eqb-true}
 use lib.ListN.{length}
+use Rattle.field.specs.Merged.{lookup}
 use Rattle.modes.specs.Refusals.{cbcRefusal, ctrRefusal, cmacRefusal}
 use Rattle.cmac.specs.declared.Verified.{Verified}
 use Rattle.promise.specs.Demands.{Steps, WorksTape, Expands, Enciphers, Deciphers, SealsCbc, OpensCbc, RunsCtr, ComesBack}
 use Rattle.rows.proofs.Rows.{published-mixed}
-use Rattle.promise.specs.Requests.{MakesTag, VerifiesTag, GetsYes, Multiplies, MixesBy, MixesAsBefore, MakesTable, MakesTheTableLent, LooksUp}
+use Rattle.promise.specs.Requests.{MakesTag, VerifiesTag, GetsYes, Multiplies, MixesBy, MixesAsBefore, MakesTable, MakesTheTableLent, LooksUp, FindsMixed}
 use Rattle.promise.proofs.Requests.{looks-up, published-table}
 use Rattle.tape.proofs.step as tape-step
 use Rattle.tape_run.proofs.run as tape-run
@@ -28,6 +31,7 @@ use Rattle.round_trips.proofs.cbc_there_and_back as cbc-there-and-back
 use Rattle.round_trips.proofs.ctr_there_and_back as ctr-there-and-back
 use Rattle.rows.proofs.mix as mix-word
 use Rattle.rows.proofs.make_table as make-table
+use Rattle.mixing.proofs.look_up as look-up
 use Rattle.tables.proofs.merged_table as merged-table
 use Rattle.arithmetic.proofs.times as times
 
@@ -133,6 +137,11 @@ module _ (κs : Lfts 1) where
   pub table-looks-up : (a : _) (z : _) (e : _) → make-table.Reads.Learnt κs a z e → LooksUp (a .0) z (e .1 .0 .now)
   table-looks-up a z e h = looks-up (a .0) (a .1 .0 .now) (e .1 .0 .now) h
 
+  pub finds-mixed : (κs′ : Lfts 1) (b : _) (w : _) (f : _) → look-up.Reads.Learnt κs′ b w f → (a : _) (z : _) (e : _)
+      → make-table.Reads.Learnt κs a z e → FindsMixed (a .0) z (e .1 .0 .now) (b .0 .now) (b .1 .0) w
+  finds-mixed κs′ b w f p a z e h done same =
+      p ∙ ap (λ (t : List ℕ). lookup t (b .1 .0)) same ∙ table-looks-up a z e h done (b .1 .0)
+
   -- beside what the constant table's function hands out, t
   pub makes-the-table-lent : (κs′ : Lfts 0) (b : _) (t : _) (f : _) → merged-table.Reads.Learnt κs′ b t f → (a : _) (z : _) (e : _)
       → make-table.Reads.Learnt κs a z e → MakesTheTableLent (a .0) (a .1 .0 .now) (e .1 .0 .now) t
@@ -191,6 +200,9 @@ module _ {M : Type 1} where
 
   pub make-table-met : make-table.Statement.statement M
   make-table-met = make-table.Met.met
+
+  pub look-up-met : look-up.Statement.statement M
+  look-up-met = look-up.Met.met
 
   pub merged-table-met : merged-table.Statement.statement M
   merged-table-met = merged-table.Met.met

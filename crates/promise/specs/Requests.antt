@@ -198,6 +198,10 @@ RotatedByRow = (g : List ℕ) → rowRefusal g ≡ 0 → (w k : ℕ) → w < 2 ^
 abbrev pub LooksUp : List ℕ → ℕ → List ℕ → Type 0
 LooksUp g answer after = answer ≡ 0 → (w : ℕ) → lookup after w ≡ by g (eachByte (sub table1) w)
 
+-- and of the operations themselves: the word found in a table lent for look-up, which was made by an accepted call
+abbrev pub FindsMixed : List ℕ → ℕ → List ℕ → List ℕ → ℕ → ℕ → Type 0
+FindsMixed g answer after lent w found = answer ≡ 0 → lent ≡ after → found ≡ by g (eachByte (sub table1) w)
+
 -- "Mixing, which took every value until now, and the table refuse a row whose coefficients XOR to zero with 13, returning the zero word or leaving
 -- the table buffer as it was; then a table buffer that isn't 256 words with 5." What a refusal leaves in a buffer is demand 1's `BuffersKept`
 abbrev pub RowNumber : List ℕ → ℕ → Mixed → Type 0

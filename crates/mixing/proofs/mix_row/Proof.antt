@@ -44,10 +44,10 @@ loop-less c = search needs
 
 loop-again : tie.Need-loop-again Inv-loop μ-loop
 loop-again c =
-    let l = c .before .before .before .loop in (
-      omega arith,
-      xorSum-next (l .k) _ (l .inv .1) (c .rotate-left .ensures ∙ ap₂ rotl (c .before .times-each .ensures) (omega arith)),
-    )
+    let l = c .before .before .before .loop in
+    let a = c .before .before .before .before .args in
+    let product : c .before .times-each .result ≡ scale (getD (a .t1) (l .k) 0) (a .w) = c .before .times-each .ensures in
+    (omega arith, xorSum-next (l .k) _ (l .inv .1) (c .rotate-left .ensures ∙ ap₂ rotl product (omega arith)))
 
 returns : tie.Need-returns Inv-loop μ-loop
 returns c = let l = c .before .loop in let e : l .k ≡ 8 = omega arith in xorSum-end _ e (l .inv .1) ∙ sym (mix-coefficients _ _)

@@ -1,6 +1,6 @@
 -- The two checks in their order, or the table.
 -- Assumes nothing.
-use mathlib.Core.Path.{refl, sym, ap, _∙_}
+use mathlib.Core.Path.{_≡_, refl, sym, ap, _∙_}
 use Rattle.field.specs.Merged.{merged}
 use Rattle.rows.proofs.Rows.{table-zero, table-five, table-iff}
 use borrow.Author.Needs.{needs}
@@ -34,9 +34,10 @@ returns-3 c =
     let f = c .before .before in
     let t = f .before .before .before in
     let s = t .before .before .before in
-    let g = s .before .before .args .g in (
+    let g = s .before .before .args .g in
+    let filled : _ ≡ merged g (t .sbox .result) = f .fill .ensures in (
       sym (table-iff g _ .1 (λ z. t .before .before .if1 .left (s .row-sum .ensures ∙ z), t .before .if2 .left)),
-      f .fill .ensures ∙ ap (merged g) (t .sbox .ensures),
+      filled ∙ ap (merged g) (t .sbox .ensures),
     )
 
 pub make-table-spec : {M : Type 1} → statement M
