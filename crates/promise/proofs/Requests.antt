@@ -6,7 +6,7 @@ use mathlib.Core.Logic.{_⊎_, inl, inr, ⊎-elim, ⊎-map, _↔_}
 use mathlib.Core.List.{List, [], _∷_}
 use Prim.Native.Nat.{ℕ, zero, suc, _≤_, _<_}
 use native.Mathlib.Omega.{arith}
-use borrow.Author.Tests.{leb-true, leb-false, eq-eqb, eqb-true}
+use borrow.Author.Tests.{leb-true, leb-false, eqb-true, eqb-false}
 use lib.Dec.{eqb, leb, leb→le}
 use lib.ListN.{length, getD, take, replicate}
 use Rattle.field.specs.Lists.{tabulate, xorSum, iterate}
@@ -207,7 +207,7 @@ row-numbers g w = go (eqb (rowSum g) 0) refl
         let m = mixed-refused g w (rowRefusal g) (λ e. row-iff g .0 e z) in
         inl (ap (λ (a : Mixed). a .number) m ∙ row-zero g z, ap (λ (a : Mixed). a .word) m, z)
     go false p =
-        let h : rowSum g ≡ 0 → ⊥ = λ z. false≢true (sym p ∙ eq-eqb (rowSum g) 0 z) in
+        let h : rowSum g ≡ 0 → ⊥ = eqb-false (rowSum g) 0 p in
         let m = mixed-done g w (row-iff g .1 h) in
         inr (ap (λ (a : Mixed). a .number) m, ap (λ (a : Mixed). a .word) m, h)
 
@@ -217,10 +217,10 @@ table-numbers g room = go (eqb (rowSum g) 0) (eqb room 256) refl refl
     go : (b c : Bool) → eqb (rowSum g) 0 ≡ b → eqb room 256 ≡ c → TableNumber g room (tableRefusal g room)
     go true c p q = let z : rowSum g ≡ 0 = eqb-true (rowSum g) 0 p in inl (table-zero g room z, z)
     go false false p q =
-        let h : rowSum g ≡ 0 → ⊥ = λ z. false≢true (sym p ∙ eq-eqb (rowSum g) 0 z) in
-        let n : room ≡ 256 → ⊥ = λ e. false≢true (sym q ∙ eq-eqb room 256 e) in
+        let h : rowSum g ≡ 0 → ⊥ = eqb-false (rowSum g) 0 p in
+        let n : room ≡ 256 → ⊥ = eqb-false room 256 q in
         inr (inl (table-five g room h n, h, n))
     go false true p q =
-        let h : rowSum g ≡ 0 → ⊥ = λ z. false≢true (sym p ∙ eq-eqb (rowSum g) 0 z) in
+        let h : rowSum g ≡ 0 → ⊥ = eqb-false (rowSum g) 0 p in
         let e : room ≡ 256 = eqb-true room 256 q in
         inr (inr (table-iff g room .1 (h, e), h, e))

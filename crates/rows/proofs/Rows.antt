@@ -1,12 +1,12 @@
 -- What the refusals say in plain terms; the answer for the published row; look-up in a table that was made.
 -- Assumes nothing.
-use mathlib.Core.Path.{_≡_, refl, sym, ap, _∙_}
-use mathlib.Core.Bool.{true, false, not, false≢true}
+use mathlib.Core.Path.{_≡_, refl, ap, _∙_}
+use mathlib.Core.Bool.{true, false, not}
 use mathlib.Core.Logic.{_↔_}
 use mathlib.Core.List.{List}
 use Prim.Native.Nat.{ℕ, zero, suc}
 use native.Mathlib.Omega.{arith}
-use borrow.Author.Tests.{eq-eqb, ne-eqb, eqb-true}
+use borrow.Author.Tests.{eq-eqb, ne-eqb, eqb-true, eqb-false, not-true}
 use lib.Dec.{eqb}
 use Rattle.field.specs.Lists.{xorSum}
 use Rattle.field.specs.Words.{eachByte}
@@ -31,7 +31,8 @@ unfolding accepted
 taken g h = ap not (ne-eqb (rowSum g) 0 h)
 
 not-zero : (g : List ℕ) → accepted g ≡ true → rowSum g ≡ 0 → ⊥
-not-zero g t e = false≢true (sym (turned-away g e) ∙ t)
+unfolding accepted
+not-zero g t = eqb-false (rowSum g) 0 (not-true (eqb (rowSum g) 0) t)
 
 -- mixing: 13 exactly where the coefficients XOR to zero, else 0
 pub row-zero : (g : List ℕ) → rowSum g ≡ 0 → rowRefusal g ≡ 13

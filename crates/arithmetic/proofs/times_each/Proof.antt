@@ -1,4 +1,4 @@
--- As `times` goes, with a word of eight bytes in the byte's place.
+-- As `times` goes, with a word of eight bytes in the byte's place, to the eighth turn.
 -- Assumes nothing.
 use mathlib.Core.Path.{_≡_, sym, ap, _∙_}
 use Prim.Native.Nat.{_≤_, _<_, _-_, _^_}
