@@ -1,7 +1,7 @@
 # make run      the main job: document 01's example tape, made from text, worked, and shown with its answers
 # make test     the gate
 # make lib      the static library and its header, to target/dist
-# make example  builds the library and runs examples/page.c over it
+# make example  builds the library and runs examples/page.c and examples/convert.c over it
 # make compare  the library against the archivists' program; ARCHIVIST='command' for another program, SEED=number to repeat a run
 # make bench    times the proved code against C, and against OpenSSL's Camellia and ARIA where it is installed
 # make paper    the paper for the successor for print, to target/OPENING-A-PAGE.pdf
@@ -27,6 +27,8 @@ lib:
 example: lib
 	gcc -std=c99 -Wall -Wextra -Wpedantic -I target/dist examples/page.c target/dist/liblabyrinth.a -o target/page
 	target/page
+	gcc -std=c99 -Wall -Wextra -Wpedantic -I target/dist examples/convert.c target/dist/liblabyrinth.a -o target/convert
+	target/convert
 
 compare: lib
 	tests/compare_c.py $${ARCHIVIST:+--archivist "$$ARCHIVIST"} $${SEED:+--seed "$$SEED"}

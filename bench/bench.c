@@ -1,6 +1,6 @@
 /* Times the proved code against C in several shapes and OpenSSL's Camellia and ARIA at n = 1, 2 and 4: many blocks each by itself, both
-   ways, and runs by CBC and CTR; then tags, runs of all lengths, expansion, short runs, mixing, and merged tables. Always the best of several
-   passes, all in turn.
+   ways, and runs by CBC and CTR; then tags, runs of all lengths, expansion, short runs, mixing, merged tables, and the product and
+   inverse of rows. Always the best of several passes, all in turn.
    First C must give the same bytes. Times are of the processor given to the thread, so that other work disturbs them little; short runs go
    by the clock, which is read faster. It assumes Linux on x86-64. */
 #define _POSIX_C_SOURCE 199309L
@@ -22,6 +22,8 @@ uint8_t sigourta_cmac_verify(const uint64_t words[32], const uint8_t *message, s
 uint8_t sigourta_make_table(const uint8_t row[8], uint64_t *table, size_t table_length);
 uint64_t labyrinth_mix(uint64_t word);
 uint8_t labyrinth_mix_row(const uint8_t *row, size_t row_length, uint64_t word, uint64_t *out);
+uint8_t labyrinth_row_product(const uint8_t *g, size_t g_length, const uint8_t *h, size_t h_length, uint8_t *dst, size_t dst_length);
+uint8_t labyrinth_row_inverse(const uint8_t *row, size_t row_length, uint8_t *dst, size_t dst_length);
 
 enum { KINDS = 5, LONG = 1 << 20, LONGEST = 1 << 24 };
 static const char *const KIND[KINDS] = {"enciphering", "deciphering", "CBC sealing", "CBC opening", "CTR"};
@@ -342,6 +344,57 @@ static void mixing(void) {
     printf("The merged table of that row, ours: %.2f us. C's time by the same loops / ours: %.2f.\n", made[1] / 1000, made[0] / made[1]);
 }
 
+/* a row's product with another, and its inverse, in its place */
+static void row_product(uint8_t row[8]) {
+    uint8_t made[8];
+    labyrinth_row_product(row, 8, LONG_ROW, 8, made, 8);
+    memcpy(row, made, 8);
+}
+static void row_inverse(uint8_t row[8]) {
+    uint8_t made[8];
+    labyrinth_row_inverse(row, 8, made, 8);
+    memcpy(row, made, 8);
+}
+static void c_row_product(uint8_t row[8]) { lab_row_product(row, LONG_ROW, row); }
+static void c_row_inverse(uint8_t row[8]) { lab_row_inverse(row, row); }
+
+/* C multiplies and inverts rows as ours does; 0 if not */
+static int same_rows(void) {
+    uint8_t ours[8], theirs[8];
+    int same = 1;
+    for (int i = 0; i < 10000; i++) {
+        uint64_t row = next_random();
+        for (int kind = 0; kind < 2; kind++) {
+            memcpy(ours, &row, 8);
+            memcpy(theirs, &row, 8);
+            (kind ? row_inverse : row_product)(ours);
+            (kind ? c_row_inverse : c_row_product)(theirs);
+            uint8_t sum = 0;
+            for (int k = 0; k < 8; k++) sum ^= (uint8_t)(row >> 8 * k);
+            same &= (kind && sum == 0) || memcmp(ours, theirs, 8) == 0;
+        }
+    }
+    if (!same) printf("rows: DIFFER\n");
+    return same;
+}
+
+/* ns for a row, each made from the one before */
+static double make_rows(void (*by)(uint8_t[8])) {
+    static uint8_t row[8] = {0x8D, 0xA7, 0x93, 0xF1, 0xE5, 0x99, 0xB2, 0xC5};
+    double began = now();
+    for (int i = 0; i < 1000; i++) by(row);
+    return (now() - began) / 1000;
+}
+
+static void rows(void) {
+    void (*const by[])(uint8_t[8]) = {row_product, c_row_product, row_inverse, c_row_inverse};
+    double best[4] = {0};
+    for (int pass = 0; pass < 300; pass++)
+        for (int i = 0; i < 4; i++) keep(&best[i], make_rows(by[i]));
+    printf("The product of two rows, ours: %.1f ns. C's time by the same loops / ours: %.2f.\n", best[0], best[1] / best[0]);
+    printf("The inverse row, ours: %.0f ns. C's time, which divides all bytes at once / ours: %.2f.\n", best[2], best[3] / best[2]);
+}
+
 int main(void) {
     for (int i = 0; i < 32; i++) words[i] = next_random();
     for (int i = 0; i < 64; i++) start[i] = (uint8_t)(next_random() >> 32);
@@ -351,7 +404,7 @@ int main(void) {
     for (int kind = 0; kind < KINDS; kind++)
         for (int size = 0; size < 3; size++)
             if (!same_bytes(kind, 1 << size)) return 1;
-    if (!same_tags() || !same_mixed()) return 1;
+    if (!same_tags() || !same_mixed() || !same_rows()) return 1;
     if (others_version() && !(others_work(CAMELLIA) && others_work(ARIA))) return 1;
     ratios();
     tags();
@@ -359,5 +412,6 @@ int main(void) {
     expansion();
     short_runs();
     mixing();
+    rows();
     return 0;
 }

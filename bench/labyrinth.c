@@ -277,3 +277,26 @@ void lab_make_table(const uint8_t row[8], uint64_t table[256]) {
     uint64_t g = lab_mix(row, 1);
     for (int b = 0; b < 256; b++) table[b] = times_each(g, S[b]);
 }
+
+INLINE uint8_t power(uint8_t a, unsigned n) {
+    uint8_t value = 1;
+    for (; n; n /= 2) {
+        if (n % 2) value = times(value, a);
+        a = times(a, a);
+    }
+    return value;
+}
+
+void lab_row_product(const uint8_t g[8], const uint8_t h[8], uint8_t made[8]) {
+    store(made, lab_mix(h, load(g)));
+}
+
+int lab_row_inverse(const uint8_t g[8], uint8_t made[8]) {
+    uint8_t sum = 0;
+    uint64_t w = 1;
+    for (int i = 0; i < 8; i++) sum ^= g[i];
+    if (sum == 0) return 13;
+    for (int k = 0; k < 7; k++) w = lab_mix(g, w);
+    store(made, times_each(w, power(power(sum, 8), 254)));
+    return 0;
+}

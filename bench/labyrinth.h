@@ -15,8 +15,10 @@ void lab_run(enum lab_shape shape, enum lab_kind kind, int n, const uint64_t *k,
 /* CMAC of a message at n = 1, block by block, by one table or by eight */
 void lab_tag(enum lab_shape shape, const uint64_t *k, const uint8_t *message, size_t length, uint8_t tag[16]);
 /* mixing by the published row's matrix, product by product, the loop of each ending after the multiplier's highest one; by any row, all bytes
-   of the word at once, eight turns always; and the merged table of a row, made so too */
+   of the word at once, eight turns always; and the merged table of a row, the product of two rows and the inverse row, made so too */
 extern const uint8_t lab_row[8];
 uint64_t lab_mix_by_matrix(uint64_t w);
 uint64_t lab_mix(const uint8_t row[8], uint64_t w);
 void lab_make_table(const uint8_t row[8], uint64_t table[256]);
+void lab_row_product(const uint8_t g[8], const uint8_t h[8], uint8_t made[8]);
+int lab_row_inverse(const uint8_t g[8], uint8_t made[8]);

@@ -1,6 +1,6 @@
 /* The block cipher Labyrinth, and over it CBC and CTR of NIST SP 800-38A and the tag of SP 800-38B (CMAC). Each function that takes a key
- * expands it, does one operation and keeps nothing; two mix a word. n is 1, 2 or 4: a block has 16n bytes. l is 2, 3 or 4: a key has 8nl
- * bytes. Tags are at n = 1.
+ * expands it, does one operation and keeps nothing; two mix a word, and two make a row. n is 1, 2 or 4: a block has 16n bytes. l is 2, 3 or
+ * 4: a key has 8nl bytes. Tags are at n = 1.
  *
  * Returned is the number of documents 01 and 02: 0 if it was done, else the first of these that applies, and then dst, or the tag to be
  * made, holds what it held before:
@@ -8,20 +8,20 @@
  *   2  l isn't 2, 3 or 4
  *   3  the key isn't 8nl bytes
  *   6  the start block isn't 16n bytes
- *   4  the source isn't 16n bytes (a block), or no multiple of that (CBC); the row isn't 8 bytes (here the number is our choice)
- *   5  the destination isn't 16n bytes (a block), or isn't as long as the source (CBC, CTR)
+ *   4  the source isn't 16n bytes (a block), or no multiple of that (CBC); a row isn't 8 bytes (here the number is our choice)
+ *  13  the row's eight coefficients XOR to zero (a product takes any rows)
+ *   5  the destination isn't 16n bytes (a block), or isn't as long as the source (CBC, CTR), or isn't 8 bytes (a row)
  *  11  the tag isn't 8 to 16 bytes
- *  13  the row's eight coefficients XOR to zero
  *
  * 0 alone does not say that a page is genuine: by a wrong key, or altered, it opens to something too, and verifying its tag returns 0 for a
  * no as for a yes. Look at *yes.
  *
  * What the caller owes; what is proved of these functions holds only then:
- *   - Each pointer is valid for its length: key, start, src, msg, row and the tag to be verified for reading, dst and the tag to be made
- *     for writing. Any alignment will do. NULL only with length 0: such a pointer is never followed. yes points to one byte for writing,
- *     out to a uint64_t for writing, aligned as a uint64_t is; neither is ever NULL.
+ *   - Each pointer is valid for its length: key, start, src, msg, row, g, h and the tag to be verified for reading, dst and the tag to be
+ *     made for writing. Any alignment will do. NULL only with length 0: such a pointer is never followed. yes points to one byte for
+ *     writing, out to a uint64_t for writing, aligned as a uint64_t is; neither is ever NULL.
  *   - dst, the tag to be made, yes and out overlap nothing else of their call; what is only read may overlap. So nothing is sealed or
- *     opened in place.
+ *     opened in place, and no product or inverse put in the place of a row that it is made from.
  *   - While a call runs nobody else writes to its buffers or reads dst, the tag to be made, yes or out, which may hold other bytes then
  *     than in the end.
  *   - The stack has LABYRINTH_STACK bytes left.
@@ -75,6 +75,14 @@ uint64_t labyrinth_mix(uint64_t word);
  * the XOR over j of g_((i - j) mod 8) times byte j of the word. Every call sets *out: to the mixed word if it returns 0, else to the zero
  * word. The published row, 01 01 03 0F 0A 1F 0F 0C, gives what labyrinth_mix gives. */
 uint8_t labyrinth_mix_row(const uint8_t *row, size_t row_len, uint64_t word, uint64_t *out);
+
+/* Rows made from rows, in the same field; dst is 8 bytes and overlaps no row. Coefficient i of the product is the XOR over j of g_j times
+ * h_((i - j) mod 8): mixing by g and then by h is mixing by their product. The inverse is the one row whose product with row is 01 and seven
+ * 00: mixing by it undoes mixing by row. The published row's is 35 C0 C7 A9 9E C6 2E F3.
+ *
+ * So words mixed by an old row are converted to a new one by mixing them by the product of the old row's inverse and the new row. */
+uint8_t labyrinth_row_product(const uint8_t *g, size_t g_len, const uint8_t *h, size_t h_len, uint8_t *dst, size_t dst_len);
+uint8_t labyrinth_row_inverse(const uint8_t *row, size_t row_len, uint8_t *dst, size_t dst_len);
 
 #ifdef __cplusplus
 }

@@ -1,6 +1,6 @@
-/* The C interface tried: every number in its order, NULL, runs and tags over labyrinth_encipher, mixing by a row, stack use, and lent
- * memory; and that this program notices what it is to notice, by stubs that stand in the library's place and do wrong.
- * tests/c_interface.sh builds and runs it.
+/* The C interface tried: every number in its order, NULL, runs and tags over labyrinth_encipher, mixing by a row, products and inverses of
+ * rows, stack use, and lent memory; and that this program notices what it is to notice, by stubs that stand in the library's place and do
+ * wrong. tests/c_interface.sh builds and runs it.
  *
  *     c_interface [--long] [--seed N]      the seed is for the lent memory; without it one is taken from the clock, and printed */
 #define _GNU_SOURCE
@@ -19,7 +19,7 @@
 
 #include "labyrinth.h"
 
-/* ---- calls: a function of any of the six shapes with its arguments */
+/* ---- calls: a function of any of the eight shapes with its arguments */
 
 typedef uint8_t block_fn(size_t, size_t, const uint8_t *, size_t, const uint8_t *, size_t, uint8_t *, size_t);
 typedef uint8_t cbc_fn(size_t, size_t, const uint8_t *, size_t, const uint8_t *, size_t, const uint8_t *, size_t, uint8_t *, size_t);
@@ -27,21 +27,25 @@ typedef uint8_t ctr_fn(size_t, size_t, const uint8_t *, size_t, const uint8_t *,
 typedef uint8_t cmac_fn(size_t, const uint8_t *, size_t, const uint8_t *, size_t, uint8_t *, size_t);
 typedef uint8_t verify_fn(size_t, const uint8_t *, size_t, const uint8_t *, size_t, const uint8_t *, size_t, uint8_t *);
 typedef uint8_t row_fn(const uint8_t *, size_t, uint64_t, uint64_t *);
+typedef uint8_t product_fn(const uint8_t *, size_t, const uint8_t *, size_t, uint8_t *, size_t);
+typedef uint8_t inverse_fn(const uint8_t *, size_t, uint8_t *, size_t);
 typedef uint64_t mix_fn(uint64_t);
 
 /* A tag's message is SRC. The tag to be made is DST; the one to be verified stands for START, and DST is *yes, always one byte. A row is
- * KEY, its word q, and DST is *out, always eight bytes. */
-enum kind { BLOCK, CBC, CTR, CMAC, VERIFY, ROW, KINDS };
+ * KEY, its word q, and DST is *out, always eight bytes. Of a product g is KEY and h is SRC. */
+enum kind { BLOCK, CBC, CTR, CMAC, VERIFY, ROW, PRODUCT, INVERSE, KINDS };
 enum buffer { KEY, START, SRC, DST, BUFFERS };
-static const char *const buffer_names[BUFFERS] = {"key or row", "start or the tag to be verified", "src or msg",
+static const char *const buffer_names[BUFFERS] = {"key, row or g", "start or the tag to be verified", "src, msg or h",
                                                   "dst, the tag to be made, yes or out"};
-enum { OPS = 8, MAKES = 5, VERIFIES = 6 };
+enum { OPS = 10, MAKES = 5, VERIFIES = 6, MULTIPLIES = 8, INVERTS = 9 };
 
 struct op {
     const char *name;
     enum kind kind;
     int back; /* the number of the op that undoes it; none for a tag or a row */
-    union { block_fn *block; cbc_fn *cbc; ctr_fn *ctr; cmac_fn *cmac; verify_fn *verify; row_fn *row; } fn;
+    union {
+        block_fn *block; cbc_fn *cbc; ctr_fn *ctr; cmac_fn *cmac; verify_fn *verify; row_fn *row; product_fn *product; inverse_fn *inverse;
+    } fn;
 };
 
 static const struct op library[OPS] = {
@@ -53,6 +57,8 @@ static const struct op library[OPS] = {
     {"labyrinth_cmac", CMAC, -1, {.cmac = labyrinth_cmac}},
     {"labyrinth_cmac_verify", VERIFY, -1, {.verify = labyrinth_cmac_verify}},
     {"labyrinth_mix_row", ROW, -1, {.row = labyrinth_mix_row}},
+    {"labyrinth_row_product", PRODUCT, -1, {.product = labyrinth_row_product}},
+    {"labyrinth_row_inverse", INVERSE, -1, {.inverse = labyrinth_row_inverse}},
 };
 
 struct call {
@@ -77,12 +83,18 @@ static __attribute__((noinline)) uint8_t run(const struct op *op, const struct c
         return op->fn.cmac(c->l, c->at[KEY], c->len[KEY], c->at[SRC], c->len[SRC], c->at[DST], c->len[DST]);
     case VERIFY:
         return op->fn.verify(c->l, c->at[KEY], c->len[KEY], c->at[SRC], c->len[SRC], c->at[START], c->len[START], c->at[DST]);
-    default:
+    case ROW:
         return op->fn.row(c->at[KEY], c->len[KEY], c->q, (uint64_t *)(void *)c->at[DST]);
+    case PRODUCT:
+        return op->fn.product(c->at[KEY], c->len[KEY], c->at[SRC], c->len[SRC], c->at[DST], c->len[DST]);
+    default:
+        return op->fn.inverse(c->at[KEY], c->len[KEY], c->at[DST], c->len[DST]);
     }
 }
 
 static int is_tag(enum kind kind) { return kind == CMAC || kind == VERIFY; }
+
+static int is_row(enum kind kind) { return kind == ROW || kind == PRODUCT || kind == INVERSE; }
 
 /* Whether every call sets DST, also one that is refused. */
 static int always_sets(enum kind kind) { return kind == VERIFY || kind == ROW; }
@@ -92,7 +104,8 @@ static enum buffer tag_of(enum kind kind) { return kind == CMAC ? DST : START; }
 /* Whether the operations of this kind have such a buffer. */
 static int has(enum kind kind, enum buffer b)
 {
-    return kind == ROW ? b == KEY || b == DST : b != START || (kind != BLOCK && kind != CMAC);
+    if (is_row(kind)) return b == KEY || b == DST || (b == SRC && kind == PRODUCT);
+    return b != START || (kind != BLOCK && kind != CMAC);
 }
 
 static uint8_t row_sum(const uint8_t *row, size_t len)
@@ -106,7 +119,11 @@ static uint8_t row_sum(const uint8_t *row, size_t len)
 static uint8_t number_of(enum kind kind, const struct call *c)
 {
     size_t n = c->n, l = c->l;
-    if (kind == ROW) return c->len[KEY] != 8 ? 4 : row_sum(c->at[KEY], 8) == 0 ? 13 : 0;
+    if (is_row(kind)) {
+        if (c->len[KEY] != 8 || (kind == PRODUCT && c->len[SRC] != 8)) return 4;
+        if (kind != PRODUCT && row_sum(c->at[KEY], 8) == 0) return 13;
+        return kind != ROW && c->len[DST] != 8 ? 5 : 0;
+    }
     if (n != 1 && n != 2 && n != 4) return 1;
     if (l != 2 && l != 3 && l != 4) return 2;
     if (c->len[KEY] != 8 * n * l) return 3;
@@ -196,18 +213,22 @@ static void cmac(size_t l, const uint8_t *key, const uint8_t *msg, size_t len, u
 
 /* ---- rows: the article's sum with the field's product written out */
 
-static const uint8_t published[8] = {0x01, 0x01, 0x03, 0x0F, 0x0A, 0x1F, 0x0F, 0x0C}, neutral[8] = {0x01};
+static const uint8_t published[8] = {0x01, 0x01, 0x03, 0x0F, 0x0A, 0x1F, 0x0F, 0x0C}, neutral[8] = {0x01},
+                     published_inverse[8] = {0x35, 0xC0, 0xC7, 0xA9, 0x9E, 0xC6, 0x2E, 0xF3};
+enum { FIELD = 0x12D, OTHER_FIELD = 0x11D };
 
-static uint8_t times(uint8_t a, uint8_t b)
+static uint8_t times_modulo(unsigned field, uint8_t a, uint8_t b)
 {
     unsigned product = 0;
     for (int k = 7; k >= 0; k--) {
         product <<= 1;
-        if (product & 0x100) product ^= 0x12D;
+        if (product & 0x100) product ^= field;
         if (b >> k & 1) product ^= a;
     }
     return (uint8_t)product;
 }
+
+static uint8_t times(uint8_t a, uint8_t b) { return times_modulo(FIELD, a, b); }
 
 static uint64_t mixed(const uint8_t *row, uint64_t word)
 {
@@ -217,11 +238,31 @@ static uint64_t mixed(const uint8_t *row, uint64_t word)
     return sum;
 }
 
-/* Whether *yes or *out is what it must be after any call, and the tag after one that was done; blocks and runs are not looked at. */
+/* x^j times x^k is x^((j + k) mod 8). */
+static void multiply(const uint8_t *g, const uint8_t *h, uint8_t *product)
+{
+    memset(product, 0, 8);
+    for (int j = 0; j < 8; j++)
+        for (int k = 0; k < 8; k++) product[(j + k) & 7] ^= times(g[j], h[k]);
+}
+
+/* Whether a row is another's inverse. */
+static int is_inverse(const uint8_t *row, const uint8_t *inverse)
+{
+    uint8_t product[8];
+    multiply(row, inverse, product);
+    return memcmp(product, neutral, 8) == 0;
+}
+
+/* Whether *yes or *out is what it must be after any call, and the tag or the row after one that was done; blocks and runs are not looked
+ * at. */
 static int made_right(enum kind kind, const struct call *c)
 {
     uint8_t whole[16];
     int refused = number_of(kind, c) != 0;
+    if (kind == INVERSE) return refused || is_inverse(c->at[KEY], c->at[DST]);
+    if (kind == PRODUCT && !refused) multiply(c->at[KEY], c->at[SRC], whole);
+    if (kind == PRODUCT) return refused || memcmp(c->at[DST], whole, 8) == 0;
     uint64_t word = kind == ROW && !refused ? mixed(c->at[KEY], c->q) : 0;
     if (kind == ROW) return memcmp(c->at[DST], &word, sizeof word) == 0;
     if (!is_tag(kind)) return 1;
@@ -234,15 +275,19 @@ static int made_right(enum kind kind, const struct call *c)
 
 static struct {
     enum { HONEST, PAST, BEFORE, WRITES, SWAPS, TOUCHES, DEEP, CALLS_3, ALTERS, SAYS_YES, SAYS_NO, LOOKS_AT_8, KEEPS, SWAPS_13, SUM_FIRST,
-           SUMS_7, MIXES, ONE_ROW, TURNS, CUTS } what;
+           SUMS_7, MIXES, ONE_ROW, TURNS, CUTS, CUTS_H, CUTS_DST, CUTS_32, CUTS_32_H, TAKES_8, FIVE_FIRST, FIVE_BEFORE_13, FIVE_FOR_H,
+           REFUSES_13, ZERO_ROW_ONLY, CLEARS, ALIGNS, OVERRUNS, DROPS, MODULO_11D, SQUARES, COPIES, SIXTH, UNDIVIDED, TIMES_EIGHTH } what;
     enum buffer which;
     enum kind kind; /* KINDS for all */
 } stub;
 static volatile uint8_t sink;
+static const size_t far = (size_t)1 << 32;
+
+static int is_at_work(enum kind kind) { return stub.kind == KINDS || stub.kind == kind; }
 
 static uint8_t misdo(enum kind kind, uint8_t number, struct call c)
 {
-    if (stub.kind != KINDS && stub.kind != kind) return number;
+    if (!is_at_work(kind)) return number;
     volatile uint8_t *at = c.at[stub.which];
     size_t len = c.len[stub.which];
     switch (stub.what) {
@@ -254,6 +299,8 @@ static uint8_t misdo(enum kind kind, uint8_t number, struct call c)
     case SWAPS_13: if (number == 4 || number == 13) number = (uint8_t)(17 - number); break;
     case CALLS_3: if (number == 11) number = 3; break;
     case ALTERS: if (number == 0) c.at[DST][c.len[DST] - 1] ^= 0x80; break;
+    case CLEARS: if (number && c.len[DST]) memset(c.at[DST], 0, c.len[DST]); break;
+    case OVERRUNS: if (number == 0) c.at[DST][c.len[DST]] ^= 1; break;
     case SAYS_YES: if (number == 0) *c.at[DST] = 1; break;
     case SAYS_NO: *c.at[DST] = 0; break;
     default: break;
@@ -307,31 +354,117 @@ static uint8_t stub_cmac_verify(size_t l, const uint8_t *key, size_t key_len, co
     uint8_t held = *yes;
     if (stub.what == DEEP) deepen();
     uint8_t number = labyrinth_cmac_verify(l, key, key_len, msg, msg_len, tag, tag_len, yes);
-    if (stub.what == KEEPS && number != 0) *yes = held;
+    if (is_at_work(VERIFY) && stub.what == KEEPS && number != 0) *yes = held;
     if (stub.what == LOOKS_AT_8 && number == 0) labyrinth_cmac_verify(l, key, key_len, msg, msg_len, tag, 8, yes);
     return misdo(VERIFY, number, LENT(1, tag, tag_len, msg, msg_len, yes, 1));
+}
+static const uint8_t *turned(const uint8_t *row)
+{
+    static uint8_t to[8];
+    for (int i = 0; i < 8; i++) to[i] = row[-i & 7];
+    return to;
 }
 static uint8_t stub_mix_row(const uint8_t *row, size_t row_len, uint64_t word, uint64_t *out)
 {
     struct call c = {.q = word, .at = {(uint8_t *)(uintptr_t)row, NULL, NULL, (uint8_t *)out}, .len = {row_len, 0, 0, sizeof *out}};
     uint64_t held = *out;
-    uint8_t turned[8];
-    if (stub.what == DEEP) deepen();
-    if (stub.what == CUTS) row_len %= 256;
-    if (stub.what == ONE_ROW && row_len == 8) row = published;
-    if (stub.what == TURNS && row_len == 8) {
-        for (int i = 0; i < 8; i++) turned[i] = row[-i & 7];
-        row = turned;
-    }
+    int what = is_at_work(ROW) ? (int)stub.what : HONEST;
+    if (what == DEEP) deepen();
+    if (what == CUTS) row_len %= 256;
+    if (what == CUTS_32) row_len %= far;
+    if (what == ONE_ROW && row_len == 8) row = published;
+    if (what == TURNS && row_len == 8) row = turned(row);
     uint8_t number = labyrinth_mix_row(row, row_len, word, out);
-    if (stub.what == KEEPS && number != 0) *out = held;
-    if (stub.what == SUM_FIRST && row_sum(row, row_len) == 0) number = 13;
-    if (stub.what == MIXES && number != 0 && row_len == 8) *out = mixed(row, word);
-    if (stub.what == SUMS_7 && row_len == 8) {
+    if (what == KEEPS && number != 0) *out = held;
+    if (what == SUM_FIRST && row_sum(row, row_len) == 0) number = 13;
+    if (what == MIXES && number != 0 && row_len == 8) *out = mixed(row, word);
+    if (what == SUMS_7 && row_len == 8) {
         number = row_sum(row, 7) == 0 ? 13 : 0;
         *out = number == 0 ? mixed(row, word) : 0;
     }
     return misdo(ROW, number, c);
+}
+static const uint8_t *aligned(const uint8_t *at) { return at - (uintptr_t)at % 8; }
+static uint8_t stub_row_product(const uint8_t *g, size_t g_len, const uint8_t *h, size_t h_len, uint8_t *dst, size_t dst_len)
+{
+    struct call c = {.at = {(uint8_t *)(uintptr_t)g, NULL, (uint8_t *)(uintptr_t)h, dst}, .len = {g_len, 0, h_len, dst_len}};
+    int what = is_at_work(PRODUCT) ? (int)stub.what : HONEST, eight = g_len == 8 && h_len == 8;
+    if (what == DEEP) deepen();
+    if (what == FIVE_FIRST && dst_len != 8) return 5;
+    if (what == REFUSES_13 && eight && (row_sum(g, 8) == 0 || row_sum(h, 8) == 0)) return 13;
+    if (what == KEEPS && eight && dst_len == 8) return 0;
+    if (what == CUTS) g_len %= 256;
+    if (what == CUTS_H) h_len %= 256;
+    if (what == CUTS_DST) dst_len %= 256;
+    if (what == CUTS_32) g_len %= far;
+    if (what == CUTS_32_H) h_len %= far;
+    if (what == TAKES_8 && h_len > 8) h_len = 8;
+    if (what == SQUARES && eight) h = g;
+    if (what == ONE_ROW && eight) h = published;
+    if (what == TURNS && eight) h = turned(h);
+    if (what == ALIGNS) h = aligned(h);
+    uint8_t number = labyrinth_row_product(g, g_len, h, h_len, dst, dst_len);
+    if (what == FIVE_FOR_H && number == 4 && g_len == 8) number = 5;
+    if (what == COPIES && number == 0) memcpy(dst, g, 8);
+    if ((what == DROPS || what == MODULO_11D) && number == 0) {
+        memset(dst, 0, 8);
+        for (int j = 0; j < 8; j++)
+            for (int k = 0; k < (what == DROPS ? 8 - j : 8); k++)
+                dst[(j + k) & 7] ^= times_modulo(what == DROPS ? FIELD : OTHER_FIELD, g[j], h[k]);
+    }
+    return misdo(PRODUCT, number, c);
+}
+/* A byte to a power. */
+static uint8_t power(unsigned field, uint8_t a, int n)
+{
+    uint8_t product = 1;
+    while (n-- > 0) product = times_modulo(field, product, a);
+    return product;
+}
+static uint8_t stub_row_inverse(const uint8_t *row, size_t row_len, uint8_t *dst, size_t dst_len)
+{
+    struct call c = {.at = {(uint8_t *)(uintptr_t)row, NULL, NULL, dst}, .len = {row_len, 0, 0, dst_len}};
+    int what = is_at_work(INVERSE) ? (int)stub.what : HONEST;
+    uint8_t inverse[8];
+    if (what == DEEP) deepen();
+    if (what == FIVE_FIRST && dst_len != 8) return 5;
+    if (what == FIVE_BEFORE_13 && row_len == 8 && dst_len != 8) return 5;
+    if (what == SUM_FIRST && row_sum(row, row_len) == 0) return 13;
+    if (what == SUMS_7 && row_len == 8 && row_sum(row, 7) == 0) return 13;
+    if (what == KEEPS && row_len == 8 && row_sum(row, 8) != 0 && dst_len == 8) return 0;
+    if (what == CUTS) row_len %= 256;
+    if (what == CUTS_DST) dst_len %= 256;
+    if (what == CUTS_32) row_len %= far;
+    if (what == TAKES_8 && row_len > 8) row_len = 8;
+    if (what == ONE_ROW && row_len == 8 && row_sum(row, 8) != 0) row = published;
+    if (what == TURNS && row_len == 8) row = turned(row);
+    if (what == ALIGNS) row = aligned(row);
+    uint8_t number = labyrinth_row_inverse(row, row_len, dst, dst_len);
+    if (number == 13 && ((what == ZERO_ROW_ONLY && memcmp(row, (uint8_t[8]){0}, 8) != 0) || (what == SUMS_7 && row_sum(row, 7) != 0))) {
+        number = dst_len == 8 ? 0 : 5;
+        if (number == 0) memset(dst, 0, 8);
+    }
+    if (what == COPIES && number == 0) memcpy(dst, row, 8);
+    if (what == SIXTH && number == 0) { /* over the eighth: the inverse times itself */
+        memcpy(inverse, dst, 8);
+        multiply(inverse, inverse, dst);
+    }
+    for (int i = 0; i < 8 && number == 0; i++) {
+        if (what == UNDIVIDED) dst[i] = times(dst[i], power(FIELD, row_sum(row, 8), 8));
+        if (what == TIMES_EIGHTH) dst[i] = times(dst[i], power(FIELD, row_sum(row, 8), 16));
+    }
+    if (what == MODULO_11D && number == 0) {
+        memcpy(inverse, neutral, 8);
+        for (int n = 0; n < 7; n++) {
+            memset(dst, 0, 8);
+            for (int j = 0; j < 8; j++)
+                for (int k = 0; k < 8; k++) dst[(j + k) & 7] ^= times_modulo(OTHER_FIELD, inverse[j], row[k]);
+            memcpy(inverse, dst, 8);
+        }
+        uint8_t reciprocal = power(OTHER_FIELD, row_sum(row, 8), 8 * 254);
+        for (int i = 0; i < 8; i++) dst[i] = times_modulo(OTHER_FIELD, dst[i], reciprocal);
+    }
+    return misdo(INVERSE, number, c);
 }
 
 static const struct op stubs[OPS] = {
@@ -343,6 +476,8 @@ static const struct op stubs[OPS] = {
     {"stub_cmac", CMAC, -1, {.cmac = stub_cmac}},
     {"stub_cmac_verify", VERIFY, -1, {.verify = stub_cmac_verify}},
     {"stub_mix_row", ROW, -1, {.row = stub_mix_row}},
+    {"stub_row_product", PRODUCT, -1, {.product = stub_row_product}},
+    {"stub_row_inverse", INVERSE, -1, {.inverse = stub_row_inverse}},
 };
 
 /* ---- numbers: each function over a grid of n, l and lengths; every buffer of length 0 is NULL */
@@ -377,7 +512,7 @@ static void number_case(const struct op *op, struct call *c, long *calls, long *
     if (memcmp(plain[DST], before[DST], MARGIN) != 0 ||
         memcmp(plain[DST] + MARGIN + written, before[DST] + MARGIN + written, ROOM + MARGIN - written) != 0)
         wrong(CALL_TEXT "number %d, and the destination touched", CALL(op, c), number);
-    if (!made_right(op->kind, c)) wrong(CALL_TEXT "number %d, and the tag, *yes or *out is wrong", CALL(op, c), number);
+    if (!made_right(op->kind, c)) wrong(CALL_TEXT "number %d, and the tag, *yes, *out or the row is wrong", CALL(op, c), number);
     if (op->kind <= CTR && written && memcmp(plain[DST] + MARGIN, before[DST] + MARGIN, written) == 0)
         wrong(CALL_TEXT "number %d, and nothing written", CALL(op, c), number);
     for (int b = KEY; b < DST; b++)
@@ -421,29 +556,41 @@ static void tag_numbers(const struct op *op, long *calls, long *seen)
     }
 }
 
+static void put(enum buffer b, const uint8_t *bytes, size_t len)
+{
+    memcpy(before[b] + MARGIN, bytes, len);
+    memcpy(plain[b], before[b], sizeof plain[b]);
+}
+
 /* The word that a call with such a row leaves in *out. */
 static uint64_t row_case(const struct op *op, const uint8_t *row, size_t len, uint64_t word, long *calls, long *seen)
 {
     struct call c = {.q = word, .len = {len, 0, 0, sizeof word}};
-    memcpy(before[KEY] + MARGIN, row, len);
-    memcpy(plain[KEY], before[KEY], sizeof plain[KEY]);
+    put(KEY, row, len);
     number_case(op, &c, calls, seen);
     memcpy(&word, plain[DST] + MARGIN, sizeof word);
     return word;
 }
 
-/* Rows of 0 to 20 bytes and more that XOR to zero, or would without one of them, whichever it is; then, of eight coefficients, the
- * published row and the one that changes no word, every coefficient alone with every byte alone, and any rows. */
+/* A row that XORs to zero, or for the ways 8 to 15 would without one of its bytes, whichever it is. */
+static void zero_sum(uint8_t *row, size_t len, size_t way)
+{
+    size_t one = len ? way % 8 % len : 0;
+    fill(row, len);
+    row[one] |= 1;
+    if (len) row[(one + 1) % len] ^= (uint8_t)(row_sum(row, len) ^ (way < 8 ? 0 : row[one]));
+}
+
+/* Rows of 0 to 20 bytes and more that XOR to zero, or would without one of them; then, of eight coefficients, the published row and the one
+ * that changes no word, every coefficient alone with every byte alone, and any rows. */
 static void row_numbers(const struct op *op, long *calls, long *seen)
 {
     static const size_t more[] = {24, 64, 255, 256 + 8, ROOM};
     static uint8_t row[ROOM];
     for (size_t t = 0; t < 21 + sizeof more / sizeof *more; t++)
         for (size_t way = 0; way < 16; way++) {
-            size_t len = t < 21 ? t : more[t - 21], one = len ? way % 8 % len : 0;
-            fill(row, len);
-            row[one] |= 1;
-            if (len) row[(one + 1) % len] ^= (uint8_t)(row_sum(row, len) ^ (way < 8 ? 0 : row[one]));
+            size_t len = t < 21 ? t : more[t - 21];
+            zero_sum(row, len, way);
             row_case(op, row, len, next(), calls, seen);
         }
     for (int i = 0; i < 1000; i++) {
@@ -464,6 +611,81 @@ static void row_numbers(const struct op *op, long *calls, long *seen)
     }
 }
 
+/* A product of such rows to a destination of such a length. */
+static void product_case(const struct op *op, const uint8_t *g, size_t g_len, const uint8_t *h, size_t h_len, size_t room, long *calls, long *seen)
+{
+    struct call c = {.len = {g_len, 0, h_len, room}};
+    put(KEY, g, g_len);
+    put(SRC, h, h_len);
+    number_case(op, &c, calls, seen);
+}
+
+static void inverse_case(const struct op *op, const uint8_t *row, size_t len, size_t room, long *calls, long *seen)
+{
+    struct call c = {.len = {len, 0, 0, room}};
+    put(KEY, row, len);
+    number_case(op, &c, calls, seen);
+}
+
+static const size_t row_lengths[] = {0, 1, 7, 8, 9, 16, 256 + 8, ROOM};
+enum { ROW_LENGTHS = sizeof row_lengths / sizeof *row_lengths };
+
+/* All lengths with all, for any rows, rows of which one or both XOR to zero, and the zero row; then, of eight coefficients, every one alone
+ * with every one alone, each place with each, the published row and 01 and seven 00, and any rows. */
+static void product_numbers(const struct op *op, long *calls, long *seen)
+{
+    static uint8_t g[ROOM], h[ROOM];
+    for (int i = 0; i < ROW_LENGTHS * ROW_LENGTHS * ROW_LENGTHS; i++)
+        for (int way = 0; way < 5; way++) {
+            size_t g_len = row_lengths[i % ROW_LENGTHS], h_len = row_lengths[i / ROW_LENGTHS % ROW_LENGTHS];
+            zero_sum(g, g_len, way & 1 ? 0 : 8);
+            zero_sum(h, h_len, way & 2 ? 0 : 8);
+            if (way == 4) memset(i & 1 ? g : h, 0, ROOM);
+            product_case(op, g, g_len, h, h_len, row_lengths[i / ROW_LENGTHS / ROW_LENGTHS], calls, seen);
+        }
+    for (int i = 0; i < 256 * 256; i++) {
+        memset(g, 0, 8);
+        memset(h, 0, 8);
+        g[below(8)] = (uint8_t)i;
+        h[below(8)] = (uint8_t)(i >> 8);
+        product_case(op, g, 8, h, 8, 8, calls, seen);
+    }
+    for (int i = 0; i < 4096; i++) {
+        fill(g, 8);
+        fill(h, 8);
+        if (i < 64) memset(g, 0, 8), memset(h, 0, 8), g[i / 8] = h[i % 8] = 0x80;
+        if (i % 16 == 13) memcpy(g, published, 8);
+        if (i % 16 == 14) memcpy(h, neutral, 8);
+        if (i % 16 == 15) memcpy(h, g, 8);
+        product_case(op, g, 8, h, 8, 8, calls, seen);
+    }
+}
+
+/* All lengths with all, for rows that XOR to zero, or would without one of them, and the zero row; then, of eight coefficients, every one
+ * alone at every place, all eight the same, the published row and its inverse, and any rows. */
+static void inverse_numbers(const struct op *op, long *calls, long *seen)
+{
+    static uint8_t row[ROOM];
+    for (int i = 0; i < ROW_LENGTHS * ROW_LENGTHS; i++)
+        for (size_t way = 0; way < 17; way++) {
+            size_t len = row_lengths[i % ROW_LENGTHS];
+            zero_sum(row, len, way);
+            if (way == 16) memset(row, 0, ROOM);
+            inverse_case(op, row, len, row_lengths[i / ROW_LENGTHS], calls, seen);
+        }
+    for (int i = 0; i < 256 * 9; i++) {
+        memset(row, i / 256 == 8 ? i : 0, 8);
+        row[i / 256 % 8] = (uint8_t)i;
+        inverse_case(op, row, 8, 8, calls, seen);
+    }
+    for (int i = 0; i < 4096; i++) {
+        fill(row, 8);
+        inverse_case(op, i == 0 ? published : i == 1 ? published_inverse : row, 8, 8, calls, seen);
+        if (i < 2 && memcmp(plain[DST] + MARGIN, i == 0 ? published_inverse : published, 8) != 0)
+            wrong("%s: the published row and its inverse", op->name);
+    }
+}
+
 /* The operations of one kind, or, for KINDS, all. */
 static long numbers(const struct op *ops, enum kind kind)
 {
@@ -477,6 +699,8 @@ static long numbers(const struct op *ops, enum kind kind)
         if (kind != KINDS && kind != op->kind) continue;
         if (is_tag(op->kind)) tag_numbers(op, &calls, seen);
         if (op->kind == ROW) row_numbers(op, &calls, seen);
+        if (op->kind == PRODUCT) product_numbers(op, &calls, seen);
+        if (op->kind == INVERSE) inverse_numbers(op, &calls, seen);
         for (int i = 0; op->kind <= CTR && i < NS; i++)
             for (int j = 0; j < LS; j++) {
                 size_t block = 16 * ns[i].as, keys[4], starts[4], sources[6];
@@ -501,8 +725,10 @@ static long numbers(const struct op *ops, enum kind kind)
                         }
             }
         for (int number = 0; number <= 13; number++) {
-            /* a bit for each number that a kind gives: tags 0, 2, 3 and 11, rows 0, 4 and 13 */
-            static const int given_by[KINDS] = {[BLOCK] = 0x3F, [CBC] = 0x7F, [CTR] = 0x6F, [CMAC] = 0x80D, [VERIFY] = 0x80D, [ROW] = 0x2011};
+            /* a bit for each number that a kind gives: tags 0, 2, 3 and 11, mixing by a row 0, 4 and 13, the product 0, 4 and 5, the inverse
+             * 0, 4, 5 and 13 */
+            static const int given_by[KINDS] = {[BLOCK] = 0x3F, [CBC] = 0x7F, [CTR] = 0x6F, [CMAC] = 0x80D, [VERIFY] = 0x80D, [ROW] = 0x2011,
+                                                [PRODUCT] = 0x31, [INVERSE] = 0x2031};
             int given = given_by[op->kind] >> number & 1;
             if (given != (seen[number] > 0)) wrong("%s: the grid has %ld calls with the number %d", op->name, seen[number], number);
         }
@@ -510,27 +736,65 @@ static long numbers(const struct op *ops, enum kind kind)
     return calls;
 }
 
-/* One length too long by 2^32, so right once bits are lost, of memory that can't be written. How many calls. */
+/* 2^32 bytes and some that can't be written; the second for the destination, which overlaps nothing. */
+static uint8_t *far_off[2];
+
+/* A call that is refused, for one length or more too long by 2^32, so right once bits are lost. */
+static void far_case(const struct op *op, const struct call *c, long *calls)
+{
+    memcpy(plain[DST], before[DST], sizeof plain[DST]);
+    uint8_t expected = number_of(op->kind, c), number = run(op, c);
+    ++*calls;
+    if (expected == 0 || number != expected) wrong(CALL_TEXT "%d, not %d", CALL(op, c), number, expected);
+    if (!made_right(op->kind, c)) wrong(CALL_TEXT "a refusal, and *yes or *out is not 0", CALL(op, c));
+    if (!always_sets(op->kind) && memcmp(plain[DST], before[DST], sizeof plain[DST]) != 0)
+        wrong(CALL_TEXT "a refusal, and the destination touched", CALL(op, c));
+}
+
+/* Products and inverses: all lengths with all, one or more so long; the inverse of a row that XORs to zero too. */
+static void far_rows(const struct op *ops, long *calls)
+{
+    static const uint8_t refused[8] = {1, 2, 3};
+    for (int g = 0; g <= ROW_LENGTHS; g++)
+        for (int h = 0; h <= ROW_LENGTHS; h++)
+            for (int d = 0; d <= ROW_LENGTHS; d++) {
+                const int which[BUFFERS] = {g, 0, h, d};
+                struct call c = {.n = 0};
+                if (g < ROW_LENGTHS && h < ROW_LENGTHS && d < ROW_LENGTHS) continue;
+                for (int b = 0; b < BUFFERS; b++) {
+                    c.len[b] = which[b] < ROW_LENGTHS ? row_lengths[which[b]] : far + 8;
+                    c.at[b] = which[b] == ROW_LENGTHS ? far_off[b == DST] : c.len[b] ? plain[b] + MARGIN : NULL;
+                }
+                put(KEY, published, 8);
+                far_case(&ops[MULTIPLIES], &c, calls);
+                if (h != 0) continue;
+                far_case(&ops[INVERTS], &c, calls);
+                put(KEY, refused, 8);
+                far_case(&ops[INVERTS], &c, calls);
+            }
+}
+
+/* One length too long by 2^32, and those above. How many calls. */
 static long far_lengths(const struct op *ops)
 {
-    static const size_t far = (size_t)1 << 32, l = 4;
+    static const size_t l = 4;
     long calls = 0;
-    uint8_t *at = mmap(NULL, far + ROOM, PROT_READ, MAP_PRIVATE | MAP_ANONYMOUS | MAP_NORESERVE, -1, 0);
-    if (at == MAP_FAILED) stop("mmap");
-    for (const struct op *op = ops; op < ops + OPS; op++)
+    for (int i = 0; i < 2; i++) {
+        far_off[i] = mmap(NULL, far + ROOM, PROT_READ, MAP_PRIVATE | MAP_ANONYMOUS | MAP_NORESERVE, -1, 0);
+        if (far_off[i] == MAP_FAILED) stop("mmap");
+    }
+    before[DST][0] = 1; /* for *yes */
+    for (const struct op *op = ops; op < ops + MULTIPLIES; op++)
         for (int b = 0; b < BUFFERS; b++) {
             if (!has(op->kind, (enum buffer)b) || (is_tag(op->kind) && b == SRC) || (always_sets(op->kind) && b == DST)) continue;
             struct call c = {.n = 1, .l = l, .len = {op->kind == ROW ? 8 : 8 * l, 16, 16, op->kind == VERIFY ? 1 : 16}};
             for (int i = 0; i < BUFFERS; i++) c.at[i] = plain[i];
-            c.at[b] = at;
+            c.at[b] = far_off[b == DST];
             c.len[b] += far;
-            plain[DST][0] = 1;
-            uint8_t expected = number_of(op->kind, &c), number = run(op, &c);
-            if (expected == 0 || number != expected) wrong(CALL_TEXT "%d, not %d", CALL(op, &c), number, expected);
-            if (!made_right(op->kind, &c)) wrong(CALL_TEXT "a refusal, and *yes or *out is not 0", CALL(op, &c));
-            calls++;
+            far_case(op, &c, &calls);
         }
-    munmap(at, far + ROOM);
+    far_rows(ops, &calls);
+    for (int i = 0; i < 2; i++) munmap(far_off[i], far + ROOM);
     return calls;
 }
 
@@ -541,6 +805,12 @@ static void no_bytes(void)
     uint8_t tag[16], yes = 0xAA;
     uint64_t out = 0xAA;
     if (labyrinth_mix_row(NULL, 0, 1, &out) != 4 || out != 0) wrong("mix_row: NULL, a row of 0 bytes");
+    if (labyrinth_row_product(NULL, 0, NULL, 0, NULL, 0) != 4 || labyrinth_row_product(published, 8, NULL, 0, NULL, 0) != 4 ||
+        labyrinth_row_product(NULL, 0, published, 8, NULL, 0) != 4 || labyrinth_row_product(published, 8, published, 8, NULL, 0) != 5)
+        wrong("row_product: NULL, a row of 0 bytes");
+    if (labyrinth_row_inverse(NULL, 0, NULL, 0) != 4 || labyrinth_row_inverse(zeros, 8, NULL, 0) != 13 ||
+        labyrinth_row_inverse(published, 8, NULL, 0) != 5)
+        wrong("row_inverse: NULL, a row of 0 bytes");
     for (size_t l = 2; l <= 4; l++) {
         if (labyrinth_cmac(l, zeros, 8 * l, NULL, 0, tag, sizeof tag) != 0) wrong("cmac: NULL, 0 bytes");
         if (labyrinth_cmac_verify(l, zeros, 8 * l, NULL, 0, tag, sizeof tag, &yes) != 0 || yes != 1) wrong("cmac_verify: NULL, 0 bytes");
@@ -656,6 +926,70 @@ static long all_tags(const struct op *ops)
     return bits;
 }
 
+/* ---- laws of rows */
+
+/* A product, or an inverse if there is no h, at one of the 512 alignments; rows that overlap are handed over so. */
+static void row_at(const struct op *op, size_t alignment, const uint8_t *g, const uint8_t *h, uint8_t *made)
+{
+    enum { WIDTH = 32 };
+    static _Alignas(uint64_t) uint8_t space[BUFFERS][WIDTH], held[BUFFERS][WIDTH];
+    size_t to = 8 + alignment % 8;
+    fill(space[0], sizeof space);
+    struct call c = {.at = {space[KEY] + 8 + alignment / 8 % 8, NULL, h ? space[SRC] + 8 + alignment / 64 % 8 : NULL, space[DST] + to},
+                     .len = {8, 0, h ? 8 : 0, 8}};
+    if (h && (uintptr_t)h - (uintptr_t)g < 8) c.at[SRC] = c.at[KEY] + (h - g);
+    memcpy(c.at[KEY], g, 8);
+    if (h) memcpy(c.at[SRC], h, 8);
+    memcpy(held, space, sizeof held);
+    if (run(op, &c) != 0) wrong("%s: refused", op->name);
+    memcpy(made, c.at[DST], 8);
+    memcpy(c.at[DST], held[DST] + to, 8);
+    if (memcmp(space, held, sizeof held) != 0) wrong("%s: bytes written that are not the destination's", op->name);
+}
+
+/* The word mixed by a row, or the zero word if the row is refused. */
+static uint64_t by(const uint8_t *row, uint64_t word)
+{
+    labyrinth_mix_row(row, 8, word, &word);
+    return word;
+}
+
+/* Any rows g and h, of which g has an inverse: products in either order, and of rows that overlap, mixing by both, the inverse and its own,
+ * and a word converted from g to h. How many products and inverses. */
+static long row_laws(const struct op *ops, size_t count)
+{
+    const struct op *product = &ops[MULTIPLIES], *inverse = &ops[INVERTS];
+    uint8_t g[8], h[8], both[16], gh[8], hg[8], back[8], forth[8], converting[8], expected[8];
+    for (size_t i = 0; i < count; i++) {
+        uint64_t word = next();
+        uint8_t *shifted = both + i / 64 % 8;
+        fill(g, 8);
+        fill(h, 8);
+        if (row_sum(g, 8) == 0) g[0] ^= 1;
+        if (i % 8 == 1) h[0] ^= row_sum(h, 8);
+        if (i % 8 == 2) memcpy(h, published, 8);
+        if (i % 8 == 3) memcpy(g, published, 8);
+        row_at(product, i, g, h, gh);
+        row_at(product, i, h, g, hg);
+        multiply(g, h, expected);
+        if (memcmp(gh, expected, 8) != 0 || memcmp(hg, expected, 8) != 0) wrong("%s: another product, in one order or the other", product->name);
+        if (by(gh, word) != by(h, by(g, word))) wrong("%s: mixing by it is not mixing by both rows", product->name);
+        fill(both, 16);
+        row_at(product, i, both, shifted, gh);
+        multiply(both, shifted, expected);
+        if (memcmp(gh, expected, 8) != 0) wrong("%s: another product of rows that overlap", product->name);
+        row_at(inverse, i, g, NULL, back);
+        if (!is_inverse(g, back)) wrong("%s: the product is not 01 and seven 00", inverse->name);
+        if (by(back, by(g, word)) != word) wrong("%s: mixing by it does not undo mixing", inverse->name);
+        if (i % 8 == 3 && memcmp(back, published_inverse, 8) != 0) wrong("%s: not the published row's", inverse->name);
+        row_at(inverse, i, back, NULL, forth);
+        if (memcmp(forth, g, 8) != 0) wrong("%s: the inverse's inverse is another row", inverse->name);
+        row_at(product, i, back, h, converting);
+        if (by(converting, by(g, word)) != by(h, word)) wrong("%s: a word is not converted from one row to another", product->name);
+    }
+    return 6 * (long)count;
+}
+
 /* ---- stack: a call on a painted stack of its own; what it used is from the caller's stack pointer at the call to the lowest byte that
  * lost its paint, by two paints */
 
@@ -707,6 +1041,18 @@ static uint8_t top_row(const uint8_t *r, size_t rl, uint64_t w, uint64_t *o)
     NOTE_TOP();
     return 0;
 }
+static uint8_t top_product(const uint8_t *g, size_t gl, const uint8_t *h, size_t hl, uint8_t *d, size_t dl)
+{
+    (void)g, (void)gl, (void)h, (void)hl, (void)d, (void)dl;
+    NOTE_TOP();
+    return 0;
+}
+static uint8_t top_inverse(const uint8_t *r, size_t rl, uint8_t *d, size_t dl)
+{
+    (void)r, (void)rl, (void)d, (void)dl;
+    NOTE_TOP();
+    return 0;
+}
 static uint64_t top_mix(uint64_t word)
 {
     NOTE_TOP();
@@ -735,7 +1081,8 @@ static void over_there(int paint)
 static size_t stack_of(const struct op *op, const struct call *c, mix_fn *mix)
 {
     static const struct op tops[KINDS] = {{"", BLOCK, 0, {.block = top_block}}, {"", CBC, 0, {.cbc = top_cbc}}, {"", CTR, 0, {.ctr = top_ctr}},
-                                          {"", CMAC, 0, {.cmac = top_cmac}}, {"", VERIFY, 0, {.verify = top_verify}}, {"", ROW, 0, {.row = top_row}}};
+                                          {"", CMAC, 0, {.cmac = top_cmac}}, {"", VERIFY, 0, {.verify = top_verify}}, {"", ROW, 0, {.row = top_row}},
+                                          {"", PRODUCT, 0, {.product = top_product}}, {"", INVERSE, 0, {.inverse = top_inverse}}};
     size_t used = 0;
     there_call = c;
     there_op = op ? &tops[op->kind] : NULL;
@@ -766,15 +1113,15 @@ static size_t stack(const struct op *ops, int large, size_t *each)
         for (size_t n = is_tag(kind); n <= (is_tag(kind) ? 1 : 4); n += n ? n : 1)
             for (size_t l = 2; l <= 5; l++)
                 for (size_t i = 0; i < sizeof lengths / sizeof *lengths - !large; i++) {
-                    size_t len = kind == BLOCK ? 16 * n : lengths[i];
+                    size_t len = kind == BLOCK ? 16 * n : is_row(kind) ? 8 : lengths[i];
                     struct call c = {.n = n, .l = l, .q = 1, .at = {bytes[0], bytes[0] + 512, bytes[0], bytes[1]},
-                                     .len = {kind == ROW && n ? 8 : 8 * n * l, 16 * n, len, kind == CMAC ? 16 : kind == VERIFY ? 1 : len}};
+                                     .len = {is_row(kind) && n ? 8 : 8 * n * l, 16 * n, len, kind == CMAC ? 16 : kind == VERIFY ? 1 : len}};
                     size_t used = stack_of(&ops[o], &c, NULL);
                     if (used > LABYRINTH_STACK)
                         wrong("%s: n %zu, l %zu, %zu bytes: %zu bytes of stack, and the header says %d", ops[o].name, n, l, len, used,
                               LABYRINTH_STACK);
                     if (used > each[o]) each[o] = used;
-                    if (kind == BLOCK || kind == ROW) break;
+                    if (kind == BLOCK || is_row(kind)) break;
                 }
         if (each[o] > most) most = each[o];
     }
@@ -812,7 +1159,7 @@ static size_t some_length(void)
     }
 }
 
-static void memory_case(const struct op *ops, int place)
+static void memory_case(const struct op *ops, enum kind kind, int place)
 {
     static uint8_t *copy[2], *margins;
     static const size_t illegal[] = {0, 3, 8, ((size_t)1 << 32) + 1, SIZE_MAX};
@@ -822,17 +1169,20 @@ static void memory_case(const struct op *ops, int place)
             copy[i]++; /* a byte on either side, which a stub may read */
         }
     if (!margins && !(margins = malloc(lent_size))) stop("malloc");
-    size_t o = below(OPS);
-    const struct op *op = &ops[o];
+    const struct op *op;
+    do op = &ops[below(OPS)];
+    while (kind != KINDS && kind != op->kind);
     int tag = is_tag(op->kind);
     size_t n = tag ? 1 : (size_t)1 << below(3), l = 2 + below(3);
     struct call c = {.n = n, .l = l, .q = below(2) ? next() : below(3)};
-    c.len[KEY] = op->kind == ROW ? 8 : 8 * n * l;
+    c.len[KEY] = is_row(op->kind) ? 8 : 8 * n * l;
     c.len[START] = has(op->kind, START) ? 16 * n : 0;
-    c.len[SRC] = op->kind == BLOCK ? 16 * n : has(op->kind, SRC) ? some_length() : 0;
+    c.len[SRC] = op->kind == BLOCK ? 16 * n : op->kind == PRODUCT ? 8 : has(op->kind, SRC) ? some_length() : 0;
     if (op->kind == CBC) c.len[SRC] -= c.len[SRC] % (16 * n);
-    c.len[DST] = op->kind == VERIFY ? 1 : op->kind == ROW ? sizeof(uint64_t) : c.len[SRC];
-    if (op->kind == ROW && below(4) == 0) c.len[KEY] = below(3) ? below(21) : 256 + 8;
+    c.len[DST] = op->kind == VERIFY ? 1 : is_row(op->kind) ? 8 : c.len[SRC];
+    for (int b = 0; b < BUFFERS; b++)
+        if (is_row(op->kind) && has(op->kind, (enum buffer)b) && !(always_sets(op->kind) && b == DST) && below(4) == 0)
+            c.len[b] = below(3) ? below(21) : 256 + 8;
     if (tag) c.len[tag_of(op->kind)] = 8 + below(9);
     switch (below(16)) { /* now and then something does not fit */
     case 0: c.len[KEY] = below(200); break;
@@ -849,7 +1199,7 @@ static void memory_case(const struct op *ops, int place)
         fill(c.at[b], c.len[b]);
         if (c.len[b] == 0 && place == PLACE_ANY && below(2)) c.at[b] = NULL;
     }
-    if (op->kind == ROW && c.len[KEY] && below(3) == 0) c.at[KEY][0] ^= row_sum(c.at[KEY], c.len[KEY]);
+    if (is_row(op->kind) && c.len[KEY] && below(3) == 0) c.at[KEY][0] ^= row_sum(c.at[KEY], c.len[KEY]);
     uint8_t expected = number_of(op->kind, &c);
     if (op->kind == VERIFY) { /* mostly the message's tag, now and then with one bit altered */
         uint8_t whole[16];
@@ -869,22 +1219,22 @@ static void memory_case(const struct op *ops, int place)
     size_t from = c.at[DST] ? (size_t)(c.at[DST] - lent[DST]) : 0, to = from + (number == 0 || always_sets(op->kind) ? c.len[DST] : 0);
     if (memcmp(lent[DST], margins, from) != 0 || memcmp(lent[DST] + to, margins + to, lent_size - to) != 0)
         wrong(CALL_TEXT "number %d, and bytes written that are not the destination's", CALL(op, &c), number);
-    if (!made_right(op->kind, &c)) wrong(CALL_TEXT "number %d, and the tag, *yes or *out is wrong", CALL(op, &c), number);
+    if (!made_right(op->kind, &c)) wrong(CALL_TEXT "number %d, and the tag, *yes, *out or the row is wrong", CALL(op, &c), number);
     if (number != 0 || op->kind == ROW) return;
-    /* the same in memory of any kind; and undone there it is the source, if it is no tag */
+    /* the same in memory of any kind; and undone there it is the source, if it is no tag or row */
     struct call plainly = c;
     plainly.at[DST] = copy[0];
     if (run(op, &plainly) != 0 || memcmp(copy[0], lent[DST] + from, c.len[DST]) != 0)
         wrong("%s: n %zu, l %zu, %zu bytes: another answer in other memory", op->name, n, l, c.len[SRC]);
-    if (tag) return;
+    if (op->back < 0) return;
     plainly.at[SRC] = copy[0];
     plainly.at[DST] = copy[1];
     if (run(&ops[op->back], &plainly) != 0 || (c.len[SRC] && memcmp(copy[1], c.at[SRC], c.len[SRC]) != 0))
         wrong("%s: n %zu, l %zu, %zu bytes: not undone", op->name, n, l, c.len[SRC]);
 }
 
-/* Cases in a child: what it died of, 0 if it found nothing wrong, or -1. */
-static int memory(const struct op *ops, uint64_t seed, long cases, int place)
+/* Cases in a child, of one kind, or, for KINDS, of all: what it died of, 0 if it found nothing wrong, or -1. */
+static int memory(const struct op *ops, enum kind kind, uint64_t seed, long cases, int place)
 {
     int status;
     fflush(stdout);
@@ -896,7 +1246,7 @@ static int memory(const struct op *ops, uint64_t seed, long cases, int place)
         signal(SIGSEGV, SIG_DFL);
         chance = seed;
         failures = 0;
-        for (long i = 0; i < cases; i++) memory_case(ops, place);
+        for (long i = 0; i < cases; i++) memory_case(ops, kind, place);
         fflush(stdout);
         _exit(failures != 0);
     }
@@ -914,69 +1264,98 @@ static void notice(int as_it_should, const char *what, const char *where)
     if (!as_it_should) wrong("a stub that %s %s is not told as it should be", what, where);
 }
 
-/* Whether the calls on lent memory and the numbers, and the tags if it is about tags, all find fault with the stubs; what they find is
- * neither counted nor printed. */
-static int all_notice(uint64_t seed, int cases, int about_tags)
+enum { MEMORY = 1, NUMBERS = 2, FAR = 4, TAGS = 8, LAWS = 16 };
+
+/* Whether each of these trials finds fault with the stubs; what they find is neither counted nor printed. */
+static int all_notice(uint64_t seed, int cases, int trials)
 {
     long kept = failures;
+    int found = 0;
     quiet = 1;
-    int found = memory(stubs, seed, cases, PLACE_ANY) == -1;
-    failures = 0;
-    numbers(stubs, stub.kind);
-    found = found && failures > 0;
-    failures = 0;
-    if (about_tags) {
-        tags(stubs, 5);
-        found = found && failures > 0;
+    for (int trial = MEMORY; trial <= LAWS; trial *= 2) {
+        if (!(trials & trial)) continue;
+        failures = 0;
+        if (trial == MEMORY) failures = memory(stubs, stub.kind, seed, cases, PLACE_ANY) == -1;
+        if (trial == NUMBERS) numbers(stubs, stub.kind);
+        if (trial == FAR) far_lengths(stubs);
+        if (trial == TAGS) tags(stubs, 5);
+        if (trial == LAWS) row_laws(stubs, 512);
+        if (failures > 0) found |= trial;
     }
     failures = kept;
     quiet = 0;
-    return found;
+    return found == trials;
 }
 
 static void try_stubs(uint64_t seed)
 {
-    enum { CASES = 150, MORE = 7 * CASES };
-    static const struct { int what; enum kind kind; const char *does; } own_stubs[] = {
-        {CALLS_3, CMAC, "calls 11 3"}, {CALLS_3, VERIFY, "calls 11 3"}, {ALTERS, CMAC, "alters a bit of the tag"},
-        {SAYS_YES, VERIFY, "always says yes"}, {SAYS_NO, VERIFY, "always says no"}, {LOOKS_AT_8, VERIFY, "looks at 8 bytes"},
-        {KEEPS, VERIFY, "leaves yes as it was on refusal"}, {TOUCHES, CMAC, "touches the tag on refusal"},
-        {TOUCHES, VERIFY, "says yes on refusal"},
-        {SWAPS_13, ROW, "exchanges 4 and 13"}, {SUM_FIRST, ROW, "looks for 13 before 4"}, {SUMS_7, ROW, "XORs seven coefficients"},
-        {ONE_ROW, ROW, "always mixes by the published row"}, {TURNS, ROW, "mixes by g_((j - i) mod 8)"}, {ALTERS, ROW, "alters a bit of the word"},
-        {KEEPS, ROW, "leaves out as it was on refusal"}, {TOUCHES, ROW, "gives another word than zero on refusal"},
-        {MIXES, ROW, "mixes by a row that it refuses"}, {CUTS, ROW, "takes a row's length modulo 256"},
+    enum { CASES = 50, MORE = 7 * CASES };
+    enum { BOTH = MEMORY | NUMBERS, OF_TAGS = BOTH | TAGS, OF_ROWS = BOTH | LAWS };
+    static const struct { int what; enum kind kind; const char *does; int trials; } own_stubs[] = {
+        {CALLS_3, CMAC, "calls 11 3", OF_TAGS}, {CALLS_3, VERIFY, "calls 11 3", OF_TAGS}, {ALTERS, CMAC, "alters a bit of the tag", OF_TAGS},
+        {SAYS_YES, VERIFY, "always says yes", OF_TAGS}, {SAYS_NO, VERIFY, "always says no", OF_TAGS},
+        {LOOKS_AT_8, VERIFY, "looks at 8 bytes", OF_TAGS}, {KEEPS, VERIFY, "leaves yes as it was on refusal", OF_TAGS},
+        {TOUCHES, CMAC, "touches the tag on refusal", OF_TAGS}, {TOUCHES, VERIFY, "says yes on refusal", OF_TAGS},
+        {SWAPS_13, ROW, "exchanges 4 and 13", BOTH}, {SUM_FIRST, ROW, "looks for 13 before 4", BOTH}, {SUMS_7, ROW, "XORs seven coefficients", BOTH},
+        {ONE_ROW, ROW, "always mixes by the published row", BOTH}, {TURNS, ROW, "mixes by g_((j - i) mod 8)", BOTH},
+        {ALTERS, ROW, "alters a bit of the word", BOTH}, {KEEPS, ROW, "leaves out as it was on refusal", BOTH},
+        {TOUCHES, ROW, "gives another word than zero on refusal", BOTH}, {MIXES, ROW, "mixes by a row that it refuses", BOTH},
+        {CUTS, ROW, "takes a row's length modulo 256", BOTH}, {CUTS_32, ROW, "takes a row's length modulo 2^32", FAR},
+        {SWAPS, PRODUCT, "exchanges 4 and 5", BOTH}, {FIVE_FIRST, PRODUCT, "looks for 5 before 4", BOTH},
+        {FIVE_FOR_H, PRODUCT, "gives 5 for the second row", BOTH}, {REFUSES_13, PRODUCT, "refuses rows that XOR to zero", OF_ROWS},
+        {TAKES_8, PRODUCT, "takes eight bytes of a longer second row", BOTH}, {CUTS, PRODUCT, "takes the first row's length modulo 256", BOTH},
+        {CUTS_H, PRODUCT, "takes the second row's length modulo 256", BOTH}, {CUTS_DST, PRODUCT, "takes dst's length modulo 256", BOTH},
+        {CUTS_32, PRODUCT, "takes the first row's length modulo 2^32", FAR}, {CUTS_32_H, PRODUCT, "takes the second row's length modulo 2^32", FAR},
+        {TOUCHES, PRODUCT, "touches dst on refusal", BOTH}, {CLEARS, PRODUCT, "clears dst on refusal", BOTH},
+        {KEEPS, PRODUCT, "leaves dst as it was", OF_ROWS}, {ALTERS, PRODUCT, "alters a bit of the row", OF_ROWS},
+        {DROPS, PRODUCT, "drops what is past x^7", OF_ROWS}, {MODULO_11D, PRODUCT, "multiplies modulo 0x11D", OF_ROWS},
+        {TURNS, PRODUCT, "multiplies by h_((j - i) mod 8)", OF_ROWS}, {SQUARES, PRODUCT, "multiplies the first row by itself", OF_ROWS},
+        {ONE_ROW, PRODUCT, "multiplies by the published row", OF_ROWS}, {COPIES, PRODUCT, "gives the first row", OF_ROWS},
+        {ALIGNS, PRODUCT, "reads an aligned word", LAWS}, {OVERRUNS, PRODUCT, "writes one byte past dst", NUMBERS | LAWS},
+        {SWAPS, INVERSE, "exchanges 4 and 5", BOTH}, {SWAPS_13, INVERSE, "exchanges 4 and 13", BOTH},
+        {FIVE_FIRST, INVERSE, "looks for 5 before 4", BOTH}, {FIVE_BEFORE_13, INVERSE, "looks for 5 before 13", BOTH},
+        {SUM_FIRST, INVERSE, "looks for 13 before 4", BOTH}, {SUMS_7, INVERSE, "XORs seven coefficients", BOTH},
+        {ZERO_ROW_ONLY, INVERSE, "gives 13 for the zero row only", BOTH}, {TAKES_8, INVERSE, "takes eight bytes of a longer row", BOTH},
+        {CUTS, INVERSE, "takes a row's length modulo 256", BOTH}, {CUTS_DST, INVERSE, "takes dst's length modulo 256", BOTH},
+        {CUTS_32, INVERSE, "takes a row's length modulo 2^32", FAR}, {TOUCHES, INVERSE, "touches dst on refusal", BOTH},
+        {CLEARS, INVERSE, "clears dst on refusal", BOTH}, {KEEPS, INVERSE, "leaves dst as it was", OF_ROWS},
+        {ALTERS, INVERSE, "alters a bit of the row", OF_ROWS}, {SIXTH, INVERSE, "takes the sixth power for the seventh", OF_ROWS},
+        {UNDIVIDED, INVERSE, "does not divide the seventh power", OF_ROWS},
+        {TIMES_EIGHTH, INVERSE, "multiplies by the eighth power for dividing", OF_ROWS}, {MODULO_11D, INVERSE, "inverts modulo 0x11D", OF_ROWS},
+        {TURNS, INVERSE, "gives the inverse of g_(-i mod 8)", OF_ROWS}, {ONE_ROW, INVERSE, "always gives the published row's", OF_ROWS},
+        {COPIES, INVERSE, "gives the row itself", OF_ROWS}, {ALIGNS, INVERSE, "reads an aligned word", LAWS},
+        {OVERRUNS, INVERSE, "writes one byte past dst", NUMBERS | LAWS},
     };
     size_t each[OPS + 1];
     long kept;
     stub.what = HONEST;
     stub.kind = KINDS;
     for (int place = PLACE_END; place <= PLACE_ANY; place++)
-        notice(memory(stubs, seed, CASES, place) == 0, "does as the library does on", "lent memory");
+        notice(memory(stubs, KINDS, seed, CASES, place) == 0, "does as the library does on", "lent memory");
     for (int k = 0; k < KINDS; k++)
         for (int b = 0; b < BUFFERS; b++) {
             if (!has((enum kind)k, (enum buffer)b)) continue;
             stub.kind = (enum kind)k;
             stub.which = (enum buffer)b;
             stub.what = PAST; /* crashes where the buffer is flush at its end, and not where it is flush at its start */
-            notice(memory(stubs, seed, CASES, PLACE_END) == SIGSEGV, "reads one byte past", buffer_names[b]);
-            notice(memory(stubs, seed, CASES, PLACE_START) == 0, "reads one byte past, flush at the start,", buffer_names[b]);
+            notice(memory(stubs, stub.kind, seed, CASES, PLACE_END) == SIGSEGV, "reads one byte past", buffer_names[b]);
+            notice(memory(stubs, stub.kind, seed, CASES, PLACE_START) == 0, "reads one byte past, flush at the start,", buffer_names[b]);
             stub.what = BEFORE;
-            notice(memory(stubs, seed, CASES, PLACE_START) == SIGSEGV, "reads one byte before", buffer_names[b]);
-            notice(memory(stubs, seed, CASES, PLACE_END) == 0, "reads one byte before, flush at the end,", buffer_names[b]);
+            notice(memory(stubs, stub.kind, seed, CASES, PLACE_START) == SIGSEGV, "reads one byte before", buffer_names[b]);
+            notice(memory(stubs, stub.kind, seed, CASES, PLACE_END) == 0, "reads one byte before, flush at the end,", buffer_names[b]);
             stub.what = WRITES;
             for (int place = PLACE_END; b != DST && place <= PLACE_START; place++)
-                notice(memory(stubs, seed, CASES, place) == SIGSEGV, "writes to", buffer_names[b]);
+                notice(memory(stubs, stub.kind, seed, CASES, place) == SIGSEGV, "writes to", buffer_names[b]);
         }
     stub.kind = KINDS;
     stub.what = TOUCHES;
-    notice(all_notice(seed, MORE, 0), "touches the destination", "on refusal");
+    notice(all_notice(seed, MORE, BOTH), "touches the destination", "on refusal");
     stub.what = SWAPS;
-    notice(all_notice(seed, MORE, 0), "exchanges 4 and 5", "");
+    notice(all_notice(seed, MORE, BOTH), "exchanges 4 and 5", "");
     for (size_t i = 0; i < sizeof own_stubs / sizeof *own_stubs; i++) {
         stub.kind = own_stubs[i].kind;
         stub.what = own_stubs[i].what;
-        notice(all_notice(seed, MORE, is_tag(stub.kind)), own_stubs[i].does, "");
+        notice(all_notice(seed, MORE, own_stubs[i].trials), own_stubs[i].does, "");
     }
     stub.kind = KINDS;
     kept = failures;
@@ -1006,18 +1385,18 @@ int main(int count, char **words)
         }
     lend();
     chance = seed;
-    enum { CALLS = 262151 };
+    enum { CALLS = 342082 };
     long calls = numbers(library, KINDS) + far_lengths(library);
     if (calls != CALLS) wrong("%ld numbers tried, not %d", calls, CALLS);
     no_bytes();
     for (size_t i = 0; i < 20; i++) runs(i);
     runs(300); /* over 8 KiB at n = 2 and 4, where the eight tables are used */
     runs(511);
-    long bits = all_tags(library);
+    long bits = all_tags(library), made = row_laws(library, 4096);
     size_t each[OPS + 1], most = stack(library, large, each);
     long cases = large ? 500000 : 10000;
     for (int place = PLACE_END; place <= PLACE_ANY; place++) {
-        int died = memory(library, seed + (uint64_t)place, cases, place);
+        int died = memory(library, KINDS, seed + (uint64_t)place, cases, place);
         if (died != 0) wrong("lent memory, seed %" PRIu64 ", place %d: %s", seed, place, died > 0 ? strsignal(died) : "see above");
     }
     try_stubs(seed);
@@ -1025,7 +1404,8 @@ int main(int count, char **words)
         for (int o = 0; o < OPS; o++) printf("c_interface: %s: %zu bytes of stack\n", library[o].name, each[o]);
         printf("c_interface: labyrinth_mix: %zu bytes of stack\n", each[OPS]);
     }
-    printf("c_interface: %ld numbers, %ld bits of tags altered, %zu bytes of stack of the header's %d, %ld calls on lent memory (seed %" PRIu64
-           "), %d trials of stubs: %ld wrong\n", calls, bits, most, LABYRINTH_STACK, 3 * cases, seed, noticed, failures);
+    printf("c_interface: %ld numbers, %ld bits of tags altered, %ld products and inverses, %zu bytes of stack of the header's %d, "
+           "%ld calls on lent memory (seed %" PRIu64 "), %d trials of stubs: %ld wrong\n",
+           calls, bits, made, most, LABYRINTH_STACK, 3 * cases, seed, noticed, failures);
     return failures != 0;
 }

@@ -1,5 +1,5 @@
 #!/usr/bin/env bash
-# The C interface: the header in three languages, the archive's symbols and sections, the example against the archivists' program, and
+# The C interface: the header in three languages, the archive's symbols and sections, the examples against the archivists' program, and
 # tests/c_interface.c; each shown to notice what it is to notice. Builds target/dist if it isn't there.
 #
 #     tests/c_interface.sh [--long] [--seed N]      words for tests/c_interface.c
@@ -31,7 +31,7 @@ contents() {
     echo "writable $(readelf -SW "$1" | sed 's/^ *\[ *[0-9]*\] *//' | awk '$7 ~ /W/ { print $1 }' | sort -u | xargs)"
 }
 cat >"$work/contents" <<'END'
-offers labyrinth_cbc_open labyrinth_cbc_seal labyrinth_cmac labyrinth_cmac_verify labyrinth_ctr labyrinth_decipher labyrinth_encipher labyrinth_mix labyrinth_mix_row
+offers labyrinth_cbc_open labyrinth_cbc_seal labyrinth_cmac labyrinth_cmac_verify labyrinth_ctr labyrinth_decipher labyrinth_encipher labyrinth_mix labyrinth_mix_row labyrinth_row_inverse labyrinth_row_product
 needs memcpy memset
 writable 
 END
@@ -51,12 +51,14 @@ static void *(*const at)(void) __attribute__((used)) = more;'
 alter writable 'static int more __attribute__((used)) = 1;'
 gcc -shared -Wl,-z,defs -Wl,-z,text -Wl,--whole-archive "$archive" -Wl,--no-whole-archive -o "$work/liblabyrinth.so" || wrong "no shared library"
 
-# ---- the example, as C and as C++: what it prints is what the archivists' program says
-gcc -std=c99 $warnings -I target/dist examples/page.c "$archive" -o "$work/page" || wrong "the example as C99"
-g++ -std=c++11 $warnings -x c++ -I target/dist examples/page.c -x none "$archive" -o "$work/page++" || wrong "the example as C++"
-"$work/page" >"$work/printed" || wrong "the example failed"
-"$work/page++" | cmp - "$work/printed" || wrong "the example prints something else as C++"
-agrees() {
+# ---- the examples, as C and as C++: what they print is what the archivists' program says
+for example in page convert; do
+    gcc -std=c99 $warnings -I target/dist "examples/$example.c" "$archive" -o "$work/$example" || wrong "$example.c as C99"
+    g++ -std=c++11 $warnings -x c++ -I target/dist "examples/$example.c" -x none "$archive" -o "$work/$example++" || wrong "$example.c as C++"
+    "$work/$example" >"$work/$example.printed" || wrong "$example.c failed"
+    "$work/$example++" | cmp - "$work/$example.printed" || wrong "$example.c prints something else as C++"
+done
+page_agrees() {
     python3 -B - "$1" <<'END'
 import sys
 
@@ -76,14 +78,57 @@ answers = [said[name] for name in ("cbc genuine", "ctr genuine", "ctr altered ge
 sys.exit(made != [cbc, ctr, *tags] or answers != ["yes", "yes", "no"])
 END
 }
-agrees "$work/printed" || wrong "the example's sealed pages, tags and answers are not the archivists'"
-for line in 'cbc sealed' 'ctr sealed' 'cbc tag' 'ctr tag' 'cbc genuine' 'ctr genuine' 'ctr altered genuine'; do
-    awk -v line="$line" -F ': ' '$1 == line { $0 = $1 ": " ($2 == "yes" ? "no" : $2 == "no" ? "yes" : (substr($2, 1, 1) == "0" ? "1" : "0") substr($2, 2)) }
-        { print }' "$work/printed" >"$work/altered"
-    ! cmp -s "$work/printed" "$work/altered" || wrong "the example has no line '$line'"
-    ! agrees "$work/altered" || wrong "an altered line passed as the archivists' ($line)"
-done
-# the example over functions of which one spoils a byte of what it gives or refuses: it fails then, and else prints the same
+convert_agrees() {
+    python3 -B - "$1" <<'END'
+import sys
+
+sys.path.insert(0, "tests/archivists")
+import labyrinth
+
+
+def mixed(row, word):
+    """The archivists' program mixes by the row in G."""
+    kept, labyrinth.G = labyrinth.G, row
+    try:
+        return labyrinth.cmbn_poly(word)
+    finally:
+        labyrinth.G = kept
+
+
+def product(g, h):
+    """Exponent by exponent: x^j x^k is x^((j + k) mod 8)."""
+    made = [0] * 8
+    for j in range(8):
+        for k in range(8):
+            made[(j + k) % 8] ^= labyrinth.gf_mul(g[j], h[k])
+    return made
+
+
+with open(sys.argv[1]) as file:
+    said = dict(line.rstrip("\n").split(": ", 1) for line in file)
+old, inverse, converting = (list(bytes.fromhex(said[name])) for name in ("old row", "inverse", "converting row"))
+right = len(old) == 8 and product(old, inverse) == [1, 0, 0, 0, 0, 0, 0, 0] and product(inverse, labyrinth.G) == converting
+for word in ("word 1", "word 2", "word 3"):
+    first, before, after = (int(said[word + name], 16) for name in ("", " mixed", " converted"))
+    right = right and mixed(old, first) == before and labyrinth.cmbn_poly(first) == mixed(converting, before) == after
+sys.exit(not right)
+END
+}
+# the example, then its lines that are noticed if they are altered
+compare() {
+    example=$1 printed=$work/$1.printed
+    shift
+    "${example}_agrees" "$printed" || wrong "what $example.c prints is not the archivists'"
+    for line; do
+        awk -v line="$line" -F ': ' '$1 == line { $0 = $1 ": " ($2 == "yes" ? "no" : $2 == "no" ? "yes" : (substr($2, 1, 1) == "0" ? "1" : "0") substr($2, 2)) }
+            { print }' "$printed" >"$work/altered"
+        ! cmp -s "$printed" "$work/altered" || wrong "$example.c prints no line '$line'"
+        ! "${example}_agrees" "$work/altered" || wrong "an altered line passed as the archivists' ($example.c, $line)"
+    done
+}
+compare page 'cbc sealed' 'ctr sealed' 'cbc tag' 'ctr tag' 'cbc genuine' 'ctr genuine' 'ctr altered genuine'
+compare convert 'old row' 'inverse' 'converting row' 'word '{1,2,3}{'',' mixed',' converted'}
+# the examples over functions of which one spoils what it gives or refuses: they fail then, and tell of a refusal, and else print the same
 cat >"$work/spoil.c" <<'END'
 #include <stdlib.h>
 #include <string.h>
@@ -106,18 +151,34 @@ WRAP(labyrinth_cbc_open, dst, (FRONT, BACK), (n, l, key, key_len, start, start_l
 WRAP(labyrinth_ctr, dst, (FRONT, uint64_t q, BACK), (n, l, key, key_len, start, start_len, q, src, src_len, dst, dst_len))
 WRAP(labyrinth_cmac, tag, (MESSAGE, uint8_t *tag, size_t tag_len), (l, key, key_len, msg, msg_len, tag, tag_len))
 WRAP(labyrinth_cmac_verify, yes, (MESSAGE, const uint8_t *tag, size_t tag_len, uint8_t *yes), (l, key, key_len, msg, msg_len, tag, tag_len, yes))
+WRAP(labyrinth_mix_row, out, (const uint8_t *row, size_t row_len, uint64_t word, uint64_t *out), (row, row_len, word, out))
+WRAP(labyrinth_row_product, dst, (const uint8_t *g, size_t g_len, const uint8_t *h, size_t h_len, uint8_t *dst, size_t dst_len),
+     (g, g_len, h, h_len, dst, dst_len))
+WRAP(labyrinth_row_inverse, dst, (const uint8_t *row, size_t row_len, uint8_t *dst, size_t dst_len), (row, row_len, dst, dst_len))
+uint64_t __real_labyrinth_mix(uint64_t word);
+uint64_t __wrap_labyrinth_mix(uint64_t word);
+uint64_t __wrap_labyrinth_mix(uint64_t word)
+{
+    return strcmp(getenv("SPOILS"), "labyrinth_mix") == 0 ? (uint64_t)atoi(getenv("WITH")) : __real_labyrinth_mix(word);
+}
 END
-spoilt="labyrinth_cbc_seal labyrinth_cbc_open labyrinth_ctr labyrinth_cmac labyrinth_cmac_verify"
-gcc -std=c99 $warnings -I target/dist $(printf ' -Wl,--wrap=%s' $spoilt) examples/page.c "$work/spoil.c" "$archive" -o "$work/spoilt" ||
-    wrong "the example over spoilt functions"
-SPOILS='' REFUSES='' "$work/spoilt" | cmp - "$work/printed" || wrong "the example prints something else over functions that spoil nothing"
-for name in $spoilt; do
-    for with in 0 1; do # for cmac_verify: always a no, always a yes
-        SPOILS=$name WITH=$with REFUSES='' "$work/spoilt" >/dev/null 2>&1
-        [ $? -eq 1 ] || wrong "the example passed over a $name spoilt with $with"
+page_uses="labyrinth_cbc_seal labyrinth_cbc_open labyrinth_ctr labyrinth_cmac labyrinth_cmac_verify"
+convert_uses="labyrinth_mix labyrinth_mix_row labyrinth_row_product labyrinth_row_inverse"
+for example in page convert; do
+    gcc -std=c99 $warnings -I target/dist $(printf ' -Wl,--wrap=%s' $page_uses $convert_uses) "examples/$example.c" "$work/spoil.c" "$archive" -o "$work/spoilt" ||
+        wrong "$example.c over spoilt functions"
+    SPOILS='' REFUSES='' "$work/spoilt" | cmp - "$work/$example.printed" || wrong "$example.c prints something else over functions that spoil nothing"
+    uses=${example}_uses
+    for name in ${!uses}; do
+        for with in 0 1; do # for cmac_verify: always a no, always a yes
+            SPOILS=$name WITH=$with REFUSES='' "$work/spoilt" >/dev/null 2>&1
+            [ $? -eq 1 ] || wrong "$example.c passed over a $name spoilt with $with"
+        done
+        [ "$name" != labyrinth_mix ] || continue # which refuses nothing
+        SPOILS='' REFUSES=$name "$work/spoilt" >/dev/null 2>"$work/told"
+        [ $? -eq 1 ] || wrong "$example.c passed over a refusing $name"
+        grep -qx "${name#labyrinth_}: refused with 5" "$work/told" || wrong "$example.c tells no refusal of $name"
     done
-    SPOILS='' REFUSES=$name "$work/spoilt" >/dev/null 2>&1
-    [ $? -eq 1 ] || wrong "the example passed over a refusing $name"
 done
 
 # ---- numbers, NULL, runs, tags and rows, stack, lent memory

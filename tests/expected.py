@@ -41,6 +41,9 @@ def products():
 
 LARGE = (1 << 64) - 1
 
+# the archivists' product of all pairs of bytes
+FIELD = [[labyrinth.gf_mul(a, b) for b in range(256)] for a in range(256)]
+
 # rows: 01 and seven 00; the published row; the zero row; one that XORs to zero without being zero
 ROWS = [bytes([1]).ljust(8, b"\0"), bytes(labyrinth.G), bytes(8), bytes(range(8))]
 WORDS = [0, 1, 0x100, 1 << 63, 0x80, 0x0101010101010101, 0x0123456789ABCDEF, LARGE]
@@ -62,11 +65,29 @@ def rows_to_tabulate():
     return [*((row, room) for row in ROWS for room in ROOMS), *((row, 256) for row, _ in list(random_rows())[:12])]
 
 
+def rows_to_multiply():
+    pairs = [row + word.to_bytes(8, "little") for row, word in list(random_rows())[:1000]]
+    return [*((g, h) for g in ROWS for h in ROWS), *((pair[:8], pair[8:]) for pair in pairs)]
+
+
+def rows_to_invert():
+    return [*ROWS, *(row for row, _ in random_rows())]
+
+
 def row_vectors_input():
-    """Cases of 17 bytes: the kind (0 mixes, 1 makes a table), the row, and the word or the count of the buffer's words, lowest byte first."""
+    """Cases of 17 bytes: the kind (0 mixes, 1 makes a table, 2 multiplies, 3 inverts), the row, and the word, the count of the buffer's words,
+    the other row or 0, lowest byte first."""
     for kind, cases in enumerate((rows_to_mix(), rows_to_tabulate())):
         for row, more in cases:
             yield bytes([kind]) + row + more.to_bytes(8, "little")
+    for g, h in rows_to_multiply():
+        yield b"\2" + g + h
+    for row in rows_to_invert():
+        yield b"\3" + row + bytes(8)
+
+
+def refused(row):
+    return functools.reduce(operator.xor, row) == 0
 
 
 def mixed_by(row, word):
@@ -78,16 +99,54 @@ def mixed_by(row, word):
         labyrinth.G = published
 
 
+def row_product(g, h):
+    """Exponent by exponent: x^j x^k is x^((j + k) mod 8)."""
+    made = [0] * 8
+    for j in range(8):
+        for k in range(8):
+            made[(j + k) % 8] ^= FIELD[g[j]][h[k]]
+    return bytes(made)
+
+
+def row_inverse(g):
+    """The row h with g h = 1, by elimination: eight equations, of which the ith has g_(i - j) before h_j; None where there is no such row."""
+    lines = [[g[(i - j) % 8] for j in range(8)] + [int(i == 0)] for i in range(8)]
+    for column in range(8):
+        pivot = next((i for i in range(column, 8) if lines[i][column]), None)
+        if pivot is None:
+            return None
+        lines[column], lines[pivot] = lines[pivot], lines[column]
+        factor = FIELD[lines[column][column]].index(1)
+        lines[column] = [FIELD[factor][x] for x in lines[column]]
+        for i in range(8):
+            if i != column:
+                times = FIELD[lines[i][column]]
+                lines[i] = [x ^ times[y] for x, y in zip(lines[i], lines[column])]
+    return bytes(line[8] for line in lines)
+
+
+# document 02, Job 5, as the request's issue has it: the published row's inverse
+PUBLISHED_INVERSE = bytes.fromhex("35C0C7A99EC62EF3")
+
+
 def row_vectors():
-    """Document 02, Job 4: 13 for a row that XORs to zero, and the zero word, or the buffer as it was; then 5 for a buffer that isn't 256 words."""
+    """Document 02, Job 4: 13 for a row that XORs to zero, and the zero word, or the buffer as it was; then 5 for a buffer that isn't 256 words.
+    Job 5: products, and inverse rows with their products, or 13 and the zero row."""
     for row, word in rows_to_mix():
-        refused = functools.reduce(operator.xor, row) == 0
-        yield f"mix {13 if refused else 0} {0 if refused else mixed_by(row, word):016x}\n"
+        yield f"mix {13 if refused(row) else 0} {0 if refused(row) else mixed_by(row, word):016x}\n"
     for row, room in rows_to_tabulate():
-        number = 13 if functools.reduce(operator.xor, row) == 0 else 5 if room != 256 else 0
+        number = 13 if refused(row) else 5 if room != 256 else 0
         before = (0x5A5A5A5A5A5A0000 + i for i in range(room))
         made = before if number else (mixed_by(row, labyrinth.S[b]) for b in range(256))
         yield f"table {number}" + "".join(f" {word:016x}" for word in made) + "\n"
+    for g, h in rows_to_multiply():
+        yield f"product {row_product(g, h).hex()}\n"
+    for row in rows_to_invert():
+        inverse = row_inverse(row)
+        if (inverse is None) != refused(row) or (row == ROWS[1] and inverse != PUBLISHED_INVERSE):
+            raise SystemExit(f"expected.py: the inverse of {row.hex()} is {inverse and inverse.hex()}")
+        inverse = inverse or bytes(8)
+        yield f"inverse {13 if refused(row) else 0} {inverse.hex()} {row_product(row, inverse).hex()}\n"
 
 
 def found(kind, count):
@@ -341,7 +400,7 @@ def tape_steps():
 PROGRAMS = {
     "print_tables": (None, print_tables, 256),
     "products": (None, products, 65539),
-    "row_vectors": (row_vectors_input, row_vectors, 10064),
+    "row_vectors": (row_vectors_input, row_vectors, 21084),
     "vectors": (vectors_input, vectors, 946),
     "refusals": (refusals_input, refusals, 255),
     "tape_steps": (tape_steps_input, tape_steps, 130),

@@ -4,6 +4,7 @@ ghost use mathlib.Core.Path.{_≡_};
 ghost use Prim.Native.Nat.{_%_};
 ghost use Rattle.field.specs.Words.{byte, rotl, eachByte};
 ghost use Rattle.field.specs.Field.{timesX, mul};
+ghost use Rattle.field.specs.Field as spec;
 ghost use Rattle.field.specs.Mixing.{scale};
 ghost use Rattle.arithmetic.specs.BitLength.{bitLength};
 
@@ -69,6 +70,25 @@ pub fn times(a: u8, b: u8) -> Product
         value: value,
         turns: turns,
     }
+}
+
+// A byte to the power n, by squares.
+pub fn power(a: u8, n: u32) -> u8
+    ensures { λ r. ⌜ r ≡ spec.power a n ⌝ }
+{
+    let mut value = 1u8;
+    let mut x = a;
+    let mut m = n;
+    while m != 0 {
+        if m % 2 == 1 {
+            let p = times(value, x);
+            value = p.value;
+        }
+        let s = times(x, x);
+        x = s.value;
+        m = m / 2;
+    }
+    value
 }
 
 // ---- every byte of a word at once

@@ -18,19 +18,14 @@ use Rattle.field.specs.Words.{byte}
 use Rattle.field.specs.Field.{mul, power, shift, timesX}
 use Rattle.field.specs.Mixing.{mix, product, rowSum, scale}
 use Rattle.field.specs.Published.{row}
-use Rattle.field.proofs.Xor.{xors, Additive}
+use Rattle.field.proofs.Xor.{Additive}
 use Rattle.field.proofs.Lists.{getD-tabulate, tabulate-cong}
-use Rattle.field.proofs.Field.{mul-xor-l, mul-xor-r, mul-assoc, mul-comm, mul-lt, one-mul, zero-mul, mul-zero}
+use Rattle.field.proofs.Field.{mul-assoc, mul-comm, mul-lt, one-mul, zero-mul, mul-zero}
+use Rattle.field.proofs.Power.{square, square-xor}
 use Rattle.field.proofs.Sums.{xorSum-cong, xorSum-zero, into, xorSum-swap, xorSum-only, xorSum-square}
 use Rattle.field.proofs.Words.{byte-lt, word-ext}
 use Rattle.field.proofs.Scale.{scale-lt, byte-scale}
 use Rattle.field.proofs.Mixing.{conv, byte-mix, mix-lt, mix-mix, mix-cong}
-
-abbrev square : ℕ → ℕ
-square a = mul a a
-
-square-xor : Additive square
-square-xor a b = simp (mul-xor-l, mul-xor-r, mul-comm, xors)
 
 square-pick : (b : Bool) (x : ℕ) → square (pick b x) ≡ pick b (square x)
 unfolding pick
@@ -105,7 +100,7 @@ abbrev eighth : ℕ → ℕ
 eighth a = square (square (square a))
 
 -- a row of one byte at place 0
-single : ℕ → List ℕ
+unfoldable pub single : ℕ → List ℕ
 single c = tabulate 8 (λ i. pick (eqb 0 i) c)
 
 placed-one : (g : List ℕ) (k : ℕ) → k < 8 → getD g k 0 ≡ getD (placed 1 (λ j. getD g j 0)) k 0
@@ -124,7 +119,7 @@ placed-eight h =
     (λ j m. let e : 8 * j % 8 ≡ 0 = omega arith in ap (λ (x : ℕ). pick (eqb x i) (h j)) e)
     ∙ sym (into (pick (eqb 0 i)) (pick-xor (eqb 0 i)) 8 h))
 
-mix-single : (c w : ℕ) → mix (single c) w ≡ scale c w
+pub mix-single : (c w : ℕ) → mix (single c) w ≡ scale c w
 unfolding conv single pick
 mix-single c w =
     word-ext (mix (single c) w) (scale c w) (mix-lt (single c) w) (scale-lt c w)

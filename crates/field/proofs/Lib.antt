@@ -4,6 +4,7 @@ pub mod Lists
 pub mod Sums
 pub mod Words
 pub mod Field
+pub mod Power
 pub mod Remainder
 pub mod Degree
 pub mod Scale

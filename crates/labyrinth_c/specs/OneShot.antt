@@ -28,3 +28,11 @@ yesByte (suc number) tag = 0
 -- a row has a length here: 4 if it isn't eight bytes, a number of ours, then mixing's own
 unfoldable pub rowNumber : List ℕ → ℕ
 rowNumber g = unless (eqb (length g) 8) 4 (rowRefusal g)
+
+-- the product of two rows: 4 if one of them isn't eight bytes, then 5 if the destination isn't
+unfoldable pub productNumber : List ℕ → List ℕ → ℕ → ℕ
+productNumber g h room = unless (eqb (length g) 8) 4 (unless (eqb (length h) 8) 4 (unless (eqb room 8) 5 0))
+
+-- the inverse row: a row's number, then 5 if the destination isn't eight bytes
+unfoldable pub inverseNumber : List ℕ → ℕ → ℕ
+inverseNumber g room = firstOf (rowNumber g) (unless (eqb room 8) 5 0)

@@ -1,9 +1,9 @@
-// The library as C sees it: each function that takes a key expands it, does one operation and keeps nothing; two mix a word.
-// include/labyrinth.h declares them.
+// The library as C sees it: each function that takes a key expands it, does one operation and keeps nothing; two mix a word, and two make a
+// row. include/labyrinth.h declares them.
 ghost use mathlib.Core.Path.{_≡_};
 ghost use Prim.Native.Nat.{_*_};
 ghost use lib.ListN.{length};
-ghost use Rattle.field.specs.Mixing.{mix};
+ghost use Rattle.field.specs.Mixing.{mix, product};
 ghost use Rattle.field.specs.Published.{row};
 ghost use Rattle.labyrinth.specs.Cipher.{article};
 ghost use Rattle.labyrinth.specs.Keys.{E, U};
@@ -14,7 +14,8 @@ ghost use Rattle.modes.specs.Cmac.{valid};
 ghost use Rattle.modes.specs.Cmac.{tag as madeTag};
 ghost use Rattle.modes.specs.Refusals.{cbcRefusal, ctrRefusal, cmacRefusal};
 ghost use Rattle.rows.specs.Rows.{mixed};
-ghost use Rattle.labyrinth_c.specs.OneShot.{keyOf, numberOf, yesByte, rowNumber};
+ghost use Rattle.rows.specs.Inverse.{inverseRow};
+ghost use Rattle.labyrinth_c.specs.OneShot.{keyOf, numberOf, yesByte, rowNumber, productNumber, inverseNumber};
 
 // Enciphers a block.
 #[no_mangle]
@@ -196,4 +197,52 @@ pub extern "C" fn labyrinth_mix_row(row: &[u8], word: u64, out: &mut u64) -> u8
     let m = rows::mix(eight(row), word);
     *out = m.word;
     m.number
+}
+
+// Puts a row into a buffer of its length.
+fn put_row(r: [u8; 8], dst: &mut [u8])
+    requires { ⌜ length (now dst) ≡ 8 ⌝ }
+    ensures { λ _. ⌜ now (dst .exit) ≡ r ⌝ }
+{
+    strings::copy_into(dst, &r);
+}
+
+// The product of two rows.
+#[no_mangle]
+pub extern "C" fn labyrinth_row_product(g: &[u8], h: &[u8], dst: &mut [u8]) -> u8
+    ensures number { λ r. ⌜ r ≡ productNumber (now (g .entry)) (now (h .entry)) (length (now (dst .entry))) ⌝ }
+    ensures row { λ r. ⌜ now (dst .exit) ≡ outcome r (product (now (g .entry)) (now (h .entry))) (now (dst .entry)) ⌝ }
+{
+    if g.len() != 8 {
+        return 4;
+    }
+    if h.len() != 8 {
+        return 4;
+    }
+    if dst.len() != 8 {
+        return 5;
+    }
+    put_row(rows::product(eight(g), eight(h)), dst);
+    0
+}
+
+// The inverse of a row.
+#[no_mangle]
+pub extern "C" fn labyrinth_row_inverse(row: &[u8], dst: &mut [u8]) -> u8
+    ensures number { λ r. ⌜ r ≡ inverseNumber (now (row .entry)) (length (now (dst .entry))) ⌝ }
+    ensures row { λ r. ⌜ now (dst .exit) ≡ outcome r (inverseRow (now (row .entry))) (now (dst .entry)) ⌝ }
+{
+    if row.len() != 8 {
+        return 4;
+    }
+    let found = rows::inverse(eight(row));
+    if found.number != 0 {
+        return found.number;
+    }
+    if dst.len() != 8 {
+        return 5;
+    }
+    let inverse = found.row;
+    put_row(inverse, dst);
+    0
 }

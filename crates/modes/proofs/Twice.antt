@@ -1,8 +1,9 @@
 -- Two calls in a row, the second over what the first wrote: a first that is refused stops, and after one that passes the second undoes it.
 -- Assumes nothing.
-use mathlib.Core.Path.{_≡_, sym, ap, _∙_}
+use mathlib.Core.Path.{_≡_, refl, sym, ap, _∙_}
 use mathlib.Core.List.{List}
-use Prim.Native.Nat.{ℕ}
+use Prim.Native.Nat.{ℕ, zero, suc}
+use native.Mathlib.Omega.{arith}
 use borrow.Author.Tests.{eq-eqb, ne-eqb}
 use lib.ListN.{length}
 use Rattle.labyrinth.specs.Refusals.{outcome}
@@ -16,6 +17,10 @@ first-refused a b h = rw (ne-eqb a 0 h)
 pub first-passed : (a b : ℕ) → a ≡ 0 → b ≡ firstOf a b
 unfolding firstOf
 first-passed a b h = rw (eq-eqb a 0 h)
+
+pub first-zero : (a b : ℕ) → firstOf a b ≡ 0 → (a ≡ 0) × (b ≡ 0)
+first-zero zero b e = (refl, first-passed 0 b refl ∙ e)
+first-zero (suc a) b e = let h : suc a ≡ 0 → ⊥ = λ z. omega arith in absurd (h (first-refused (suc a) b h ∙ e))
 
 -- the first answers first and maps by run, from src to mid; the second answers second, by the length of mid, and maps by back, from mid to dst
 module _ (first : ℕ) (second : ℕ → ℕ) (run back : List ℕ → List ℕ) (src mid dst : List ℕ) where

@@ -12,7 +12,7 @@ use Rattle.modes.specs.Refusals.{cbcRefusal, ctrRefusal, cmacRefusal}
 use Rattle.cmac.specs.declared.Verified.{Verified}
 use Rattle.promise.specs.Demands.{Steps, WorksTape, Expands, Enciphers, Deciphers, SealsCbc, OpensCbc, RunsCtr, ComesBack}
 use Rattle.rows.proofs.Rows.{published-mixed}
-use Rattle.promise.specs.Requests.{MakesTag, VerifiesTag, GetsYes, Multiplies, MixesBy, MixesAsBefore, MakesTable, MakesTheTableLent, LooksUp, FindsMixed}
+use Rattle.promise.specs.Requests.{MakesTag, VerifiesTag, GetsYes, Multiplies, MixesBy, MixesAsBefore, MakesTable, MakesTheTableLent, LooksUp, FindsMixed, MultipliesRows, Inverts}
 use Rattle.promise.proofs.Requests.{looks-up, published-table}
 use Rattle.tape.proofs.step as tape-step
 use Rattle.tape_run.proofs.run as tape-run
@@ -31,6 +31,8 @@ use Rattle.round_trips.proofs.cbc_there_and_back as cbc-there-and-back
 use Rattle.round_trips.proofs.ctr_there_and_back as ctr-there-and-back
 use Rattle.rows.proofs.mix as mix-word
 use Rattle.rows.proofs.make_table as make-table
+use Rattle.rows.proofs.product as product-of-rows
+use Rattle.rows.proofs.inverse as inverse-of-row
 use Rattle.mixing.proofs.look_up as look-up
 use Rattle.tables.proofs.merged_table as merged-table
 use Rattle.arithmetic.proofs.times as times
@@ -147,6 +149,15 @@ module _ (κs : Lfts 1) where
       → make-table.Reads.Learnt κs a z e → MakesTheTableLent (a .0) (a .1 .0 .now) (e .1 .0 .now) t
   makes-the-table-lent κs′ b t f p a z e h = published-table (a .0) (a .1 .0 .now) (e .1 .0 .now) h p
 
+-- ---- document 02, Job 5
+
+module _ (κs : Lfts 0) where
+  pub multiplies-rows : (a : _) (z : _) (e : _) → product-of-rows.Reads.Learnt κs a z e → MultipliesRows (a .0) (a .1 .0) z
+  multiplies-rows a z e h = h
+
+  pub inverts : (a : _) (z : _) (e : _) → inverse-of-row.Reads.Learnt κs a z e → Inverts (a .0) z
+  inverts a z e h = h
+
 -- ---- every function named here meets its contract
 
 module _ {M : Type 1} where
@@ -200,6 +211,12 @@ module _ {M : Type 1} where
 
   pub make-table-met : make-table.Statement.statement M
   make-table-met = make-table.Met.met
+
+  pub product-of-rows-met : product-of-rows.Statement.statement M
+  product-of-rows-met = product-of-rows.Met.met
+
+  pub inverse-of-row-met : inverse-of-row.Statement.statement M
+  inverse-of-row-met = inverse-of-row.Met.met
 
   pub look-up-met : look-up.Statement.statement M
   look-up-met = look-up.Met.met

@@ -13,11 +13,12 @@ use Rattle.field.specs.Lists.{tabulate, xorSum, iterate}
 use Rattle.field.specs.Words.{byte, join, eachByte}
 use Rattle.field.specs.Field.{timesX, shift, mul, power}
 use Rattle.field.specs.Substitution.{sub}
-use Rattle.field.specs.Mixing.{element, matrix, dot, mixBy, mix, rowSum}
+use Rattle.field.specs.Mixing.{element, matrix, dot, mixBy, mix, product, rowSum}
 use Rattle.field.specs.Merged.{merged}
 use Rattle.field.specs.Published.{table1, row}
 use Rattle.field.proofs.Tests.{at}
-use Rattle.field.proofs.Mixing.{mix-xor, mix-rotl}
+use Rattle.field.proofs.Xor.{additive-zero}
+use Rattle.field.proofs.Mixing.{mix-xor, mix-rotl, mix-mix}
 use Rattle.field.proofs.Eight.{mix-eightfold}
 use Rattle.arithmetic.specs.BitLength.{bitLength}
 use Rattle.arithmetic.proofs.BitLength.{bitLength-leading, bitLength-iff}
@@ -27,8 +28,12 @@ use Rattle.labyrinth.specs.Keys.{E}
 use Rattle.labyrinth.specs.Refusals.{legal, legalLength, outcome}
 use Rattle.labyrinth.proofs.Refusals.{legal-iff}
 use Rattle.rows.specs.declared.Mixed.{Mixed}
+use Rattle.rows.specs.declared.Inverted.{Inverted}
 use Rattle.rows.specs.Rows.{rowRefusal, tableRefusal, mixed}
+use Rattle.rows.specs.Inverse.{Row, constantRow, neutral, inverseRow, inverted}
 use Rattle.rows.proofs.Rows.{row-zero, row-iff, table-zero, table-five, table-iff, mixed-done, mixed-refused, row-accepted, lookup-made}
+use Rattle.rows.proofs.Ring.{product-comm, product-assoc, mix-order, mix-neutral, product-neutral}
+use Rattle.rows.proofs.Inverses.{inverse-row, product-inverse, only-inverse, no-inverse, mix-back, mix-forth, neutral-accepted, inverse-accepted, product-accepted, product-left, product-right, inverted-done, inverted-refused, published-inverse}
 use Rattle.modes.specs.Cmac.{K1, K2, tag}
 use Rattle.modes.specs.Refusals.{cmacRefusal}
 use Rattle.labyrinth.proofs.Agree.{E-used}
@@ -45,7 +50,7 @@ use Rattle.tape.proofs.Accepted.{Closed}
 use Rattle.tape_run.specs.Runs.{steps, tapeSteps, joined, tapeAnswers, lastRest, Ran}
 use Rattle.tape_run.proofs.Runs.{run-whole}
 use Rattle.tape_run.proofs.Endings.{last-eight, eight-trails, eight-once, copy-whole, copy-short}
-use Rattle.promise.specs.Requests.{MasksDoubled, OneRemainder, YesExactly, TagsOfUsedWords, TagNumber, TagNumbers, EmptyRest, EndedState, FiveFirst, ExampleKept, EmptyTape, UnknownCommand, EightTells, OneEight, NothingLost, ShortTold, ShortCoefficients, EndsAfterHighestOne, TurnsNamed, MakesTable, MakesTheTableLent, by, EightTimesByRow, PublishedPower, XorByRow, RotatedByRow, LooksUp, RowNumber, RowNumbers, TableNumber, TableNumbers}
+use Rattle.promise.specs.Requests.{MasksDoubled, OneRemainder, YesExactly, TagsOfUsedWords, TagNumber, TagNumbers, EmptyRest, EndedState, FiveFirst, ExampleKept, EmptyTape, UnknownCommand, EightTells, OneEight, NothingLost, ShortTold, ShortCoefficients, EndsAfterHighestOne, TurnsNamed, MakesTable, MakesTheTableLent, by, EightTimesByRow, PublishedPower, XorByRow, RotatedByRow, LooksUp, RowNumber, RowNumbers, TableNumber, TableNumbers, OneAfterAnother, OneAnswerAfterAnother, AcceptedTogether, OrderFree, InverseNumber, InverseNumbers, PublishedInverse, GroupingFree, ChangesNoWord, ChangesNoRow, WordBack, Converts}
 
 -- ---- Job 1
 
@@ -224,3 +229,97 @@ table-numbers g room = go (eqb (rowSum g) 0) (eqb room 256) refl refl
         let h : rowSum g ≡ 0 → ⊥ = eqb-false (rowSum g) 0 p in
         let e : room ≡ 256 = eqb-true room 256 q in
         inr (inr (table-iff g room .1 (h, e), h, e))
+
+-- ---- Job 5
+
+-- a refused row, and the zero word, answer the zero word
+by-none : (g : List ℕ) → rowSum g ≡ 0 → (w : ℕ) → by g w ≡ 0
+by-none g z w = ap (λ (m : Mixed). m .word) (mixed-refused g w (rowRefusal g) (λ e. row-iff g .0 e z))
+
+by-some : (g : List ℕ) → (rowSum g ≡ 0 → ⊥) → (w : ℕ) → by g w ≡ mix g w
+by-some g h w = ap (λ (f : ℕ → ℕ). f w) (by-mix g (row-iff g .1 h))
+
+by-zero : (g : List ℕ) → by g 0 ≡ 0
+by-zero g = go (eqb (rowSum g) 0) refl
+  where
+    go : (b : Bool) → eqb (rowSum g) 0 ≡ b → by g 0 ≡ 0
+    go true p = by-none g (eqb-true (rowSum g) 0 p) 0
+    go false p = by-some g (eqb-false (rowSum g) 0 p) 0 ∙ additive-zero (mix g) (mix-xor g)
+
+pub one-after-another : OneAfterAnother
+one-after-another = mix-mix
+
+pub one-answer-after-another : OneAnswerAfterAnother
+one-answer-after-another g h r s w = go (eqb (rowSum g) 0) (eqb (rowSum h) 0) refl refl
+  where
+    go : (b c : Bool) → eqb (rowSum g) 0 ≡ b → eqb (rowSum h) 0 ≡ c → by h (by g w) ≡ by (product g h) w
+    go true c p q =
+        let z : rowSum g ≡ 0 = eqb-true (rowSum g) 0 p in
+        ap (by h) (by-none g z w) ∙ by-zero h ∙ sym (by-none (product g h) (product-left g h z) w)
+    go false true p q =
+        let z : rowSum h ≡ 0 = eqb-true (rowSum h) 0 q in
+        by-none h z (by g w) ∙ sym (by-none (product g h) (product-right g h z) w)
+    go false false p q =
+        let a : rowSum g ≡ 0 → ⊥ = eqb-false (rowSum g) 0 p in
+        let b : rowSum h ≡ 0 → ⊥ = eqb-false (rowSum h) 0 q in
+        by-some h b (by g w) ∙ ap (mix h) (by-some g a w) ∙ mix-mix g h w ∙ sym (by-some (product g h) (product-accepted g h r s a b) w)
+
+pub accepted-together : AcceptedTogether
+accepted-together g h r s = (
+  λ e. let a = row-iff (product g h) .0 e in (row-iff g .1 (λ z. a (product-left g h z)), row-iff h .1 (λ z. a (product-right g h z))),
+  λ p. row-iff (product g h) .1 (product-accepted g h r s (row-iff g .0 (p .0)) (row-iff h .0 (p .1))),
+)
+
+pub order-free : OrderFree
+order-free g h = (product-comm g h, mix-order g h)
+
+pub grouping-free : GroupingFree
+grouping-free = product-assoc
+
+pub changes-no-word : ChangesNoWord
+changes-no-word = (unfold neutral constantRow in refl, λ w l. by-some neutral neutral-accepted w ∙ mix-neutral w l)
+
+pub changes-no-row : ChangesNoRow
+changes-no-row g r = (product-neutral g r, product-comm neutral g ∙ product-neutral g r)
+
+pub inverse-numbers : InverseNumbers
+inverse-numbers g r = go (eqb (rowSum g) 0) refl
+  where
+    go : (b : Bool) → eqb (rowSum g) 0 ≡ b → InverseNumber g (inverted g (rowRefusal g))
+    go true p =
+        let z : rowSum g ≡ 0 = eqb-true (rowSum g) 0 p in
+        let k = inverted-refused g (rowRefusal g) (λ e. row-iff g .0 e z) in
+        inl (ap (λ (a : Inverted). a .number) k ∙ row-zero g z, ap (λ (a : Inverted). a .row) k, z, λ h i. no-inverse g h z (i .1))
+    go false p =
+        let h : rowSum g ≡ 0 → ⊥ = eqb-false (rowSum g) 0 p in
+        let k = inverted-done g (row-iff g .1 h) in
+        let e : inverted g (rowRefusal g) .row ≡ inverseRow g = ap (λ (a : Inverted). a .row) k in
+        inr (
+          ap (λ (a : Inverted). a .number) k,
+          rw e (inverse-row g, product-inverse g r h),
+          h,
+          λ x i. only-inverse g r h x (i .0) (i .1) ∙ sym e,
+        )
+
+pub the-published-inverse : PublishedInverse
+the-published-inverse = published-inverse
+
+-- what is answered for an accepted row
+inverse-answered : (g : List ℕ) → rowRefusal g ≡ 0 → inverted g (rowRefusal g) .row ≡ inverseRow g
+inverse-answered g e = ap (λ (a : Inverted). a .row) (inverted-done g e)
+
+pub word-back : WordBack
+word-back g r e w l =
+    let h = row-iff g .0 e in
+    let i = inverse-accepted g r h in
+    rw (inverse-answered g e) (
+      by-some (inverseRow g) i (by g w) ∙ ap (mix (inverseRow g)) (by-some g h w) ∙ mix-back g r h w l,
+      by-some g h (by (inverseRow g) w) ∙ ap (mix g) (by-some (inverseRow g) i w) ∙ mix-forth g r h w l,
+    )
+
+pub converts : Converts
+converts g h r s e w l =
+    let k = inverted g (rowRefusal g) .row in
+    let one : by h (by k (by g w)) ≡ by h w = ap (by h) (word-back g r e w l .0) in
+    let t : Row k = rw (inverse-answered g e) (inverse-row g) in
+    (one, sym (one-answer-after-another k h t s (by g w)) ∙ one)

@@ -12,7 +12,7 @@ use Rattle.field.specs.Lists.{iterate}
 use Rattle.field.specs.Words.{rotl, eachByte}
 use Rattle.field.specs.Field.{mul, power, polyMul}
 use Rattle.field.specs.Substitution.{sub}
-use Rattle.field.specs.Mixing.{mix, rowSum, scale}
+use Rattle.field.specs.Mixing.{mix, product, rowSum, scale}
 use Rattle.field.specs.Merged.{merged, lookup}
 use Rattle.field.specs.Published.{table1, row}
 use Rattle.arithmetic.specs.declared.Product.{Product}
@@ -22,7 +22,9 @@ use Rattle.labyrinth.specs.Cipher.{article}
 use Rattle.labyrinth.specs.Keys.{E}
 use Rattle.labyrinth.specs.Refusals.{outcome}
 use Rattle.rows.specs.declared.Mixed.{Mixed}
+use Rattle.rows.specs.declared.Inverted.{Inverted}
 use Rattle.rows.specs.Rows.{rowRefusal, tableRefusal, mixed}
+use Rattle.rows.specs.Inverse.{Row, neutral, inverseRow, inverted}
 use Rattle.modes.specs.Strings.{number}
 use Rattle.modes.specs.Cmac.{K1, K2, tag}
 use Rattle.modes.specs.Gf128.{Remainder}
@@ -218,3 +220,68 @@ TableNumber g room answer =
 
 abbrev pub TableNumbers : Type 0
 TableNumbers = (g : List ℕ) (room : ℕ) → TableNumber g room (tableRefusal g room)
+
+-- ---- Job 5: rows multiply
+
+-- "mixing by row g and then by row h is mixing by their product modulo x^8 + 1": of the article's mixing; and of the words that the operation
+-- answers (`by`, above), those of refused rows too
+abbrev pub OneAfterAnother : Type 0
+OneAfterAnother = (g h : List ℕ) (w : ℕ) → mix h (mix g w) ≡ mix (product g h) w
+
+abbrev pub OneAnswerAfterAnother : Type 0
+OneAnswerAfterAnother = (g h : List ℕ) → Row g → Row h → (w : ℕ) → by h (by g w) ≡ by (product g h) w
+
+-- a product is accepted exactly where both rows are
+abbrev pub AcceptedTogether : Type 0
+AcceptedTogether = (g h : List ℕ) → Row g → Row h → (rowRefusal (product g h) ≡ 0) ↔ ((rowRefusal g ≡ 0) × (rowRefusal h ≡ 0))
+
+-- the operation that multiplies two rows, whichever they are
+abbrev pub MultipliesRows : List ℕ → List ℕ → List ℕ → Type 0
+MultipliesRows g h answer = answer ≡ product g h
+
+-- "that the order doesn't matter"
+abbrev pub OrderFree : Type 0
+OrderFree = (g h : List ℕ) → (product g h ≡ product h g) × ((w : ℕ) → mix h (mix g w) ≡ mix g (mix h w))
+
+-- "and that rows accepted since Job 4 each have exactly one inverse row, which is worked out and returned (13 for other rows)": a row whose product
+-- with g is the neutral row; other rows have none
+abbrev pub Inverts : List ℕ → Inverted → Type 0
+Inverts g answer = answer ≡ inverted g (rowRefusal g)
+
+abbrev pub InverseOf : List ℕ → List ℕ → Type 0
+InverseOf g h = Row h × (product g h ≡ neutral)
+
+abbrev pub InverseNumber : List ℕ → Inverted → Type 0
+InverseNumber g answer =
+    ((answer .number ≡ 13) × (answer .row ≡ replicate 8 0x00) × (rowSum g ≡ 0) × ((h : List ℕ) → InverseOf g h → ⊥))
+    ⊎ ((answer .number ≡ 0) × InverseOf g (answer .row) × (rowSum g ≡ 0 → ⊥) × ((h : List ℕ) → InverseOf g h → h ≡ answer .row))
+
+abbrev pub InverseNumbers : Type 0
+InverseNumbers = (g : List ℕ) → Row g → InverseNumber g (inverted g (rowRefusal g))
+
+abbrev pub PublishedInverse : Type 0
+PublishedInverse = inverseRow row ≡ 0x35 ∷ 0xC0 ∷ 0xC7 ∷ 0xA9 ∷ 0x9E ∷ 0xC6 ∷ 0x2E ∷ 0xF3 ∷ []
+
+-- "Grouping of three rows may be changed freely."
+abbrev pub GroupingFree : Type 0
+GroupingFree = (f g h : List ℕ) → Row f → product (product f g) h ≡ product f (product g h)
+
+-- "Expect the row 01 and seven 00 to change no word."
+abbrev pub ChangesNoWord : Type 0
+ChangesNoWord = (neutral ≡ 0x01 ∷ replicate 7 0x00) × ((w : ℕ) → w < 2 ^ 64 → by neutral w ≡ w)
+
+abbrev pub ChangesNoRow : Type 0
+ChangesNoRow = (g : List ℕ) → Row g → (product g neutral ≡ g) × (product neutral g ≡ g)
+
+-- so mixing by a row and by its inverse row, in either order, gives the word back
+abbrev pub WordBack : Type 0
+WordBack =
+    (g : List ℕ) → Row g → rowRefusal g ≡ 0 → (w : ℕ) → w < 2 ^ 64
+    → let k = inverted g (rowRefusal g) .row in (by k (by g w) ≡ w) × (by g (by k w) ≡ w)
+
+-- "The archive with its own row converts old pages by mixing with one row after another": from an accepted row to another row by its inverse row and
+-- that row, or by their product at once
+abbrev pub Converts : Type 0
+Converts =
+    (g h : List ℕ) → Row g → Row h → rowRefusal g ≡ 0 → (w : ℕ) → w < 2 ^ 64
+    → let k = inverted g (rowRefusal g) .row in (by h (by k (by g w)) ≡ by h w) × (by (product k h) (by g w) ≡ by h w)

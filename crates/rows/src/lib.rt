@@ -1,12 +1,16 @@
-// What takes a row of eight coefficients and may refuse it (document 02, Job 4): mixing a word and making the merged table. The field stays
-// 12D. A row whose coefficients XOR to zero gets 13.
+// What takes rows of eight coefficients (document 02, Jobs 4 and 5): mixing a word, making the merged table, the product of two rows and the
+// inverse row. The field stays 12D. A row whose coefficients XOR to zero gets 13; the product takes any rows.
 ghost use mathlib.Core.Path.{_≡_};
-ghost use lib.ListN.{length};
+ghost use lib.ListN.{length, getD};
+ghost use Rattle.field.specs.Lists.{tabulate, iterate};
+ghost use Rattle.field.specs.Words.{byte, join};
+ghost use Rattle.field.specs.Mixing as spec;
 ghost use Rattle.field.specs.Mixing.{rowSum};
 ghost use Rattle.field.specs.Merged.{merged};
 ghost use Rattle.field.specs.Published.{table1};
 ghost use Rattle.labyrinth.specs.Refusals.{outcome};
 ghost use Rattle.rows.specs.Rows.{rowRefusal, tableRefusal, mixed};
+ghost use Rattle.rows.specs.Inverse.{constantRow, inverted};
 
 // The XOR of a row's coefficients.
 fn row_sum(g: [u8; 8]) -> u8
@@ -70,4 +74,68 @@ pub fn make_table(g: [u8; 8], table: &mut [u64]) -> u8
     let s = tables::sbox();
     fill(g, &s, table);
     0
+}
+
+// ---- rows multiply
+
+// The row whose coefficients are the bytes of a word, the lowest first.
+fn row_of(w: u64) -> [u8; 8]
+    ensures { λ r. ⌜ r ≡ tabulate 8 (byte w) ⌝ }
+{
+    let mut r = [0u8; 8];
+    buffers::store_word(&mut r, 0, w);
+    r
+}
+
+// The product of two rows modulo x^8 + 1: the word of the one mixed by the other.
+pub fn product(g: [u8; 8], h: [u8; 8]) -> [u8; 8]
+    ensures { λ r. ⌜ r ≡ spec.product g h ⌝ }
+{
+    row_of(mixing::mix_row(h, buffers::load_word(&g, 0)))
+}
+
+// A row to the power n, as a word: as often mixed, from the row 01 and seven 00.
+fn power(g: [u8; 8], n: usize) -> u64
+    ensures { λ r. ⌜ r ≡ iterate n (spec.mix g) 1 ⌝ }
+{
+    let mut w = 1u64;
+    let mut k = 0usize;
+    while k < n {
+        w = mixing::mix_row(g, w);
+        k += 1;
+    }
+    w
+}
+
+// The row of c and seven 00.
+fn constant_row(c: u8) -> [u8; 8]
+    ensures { λ r. ⌜ r ≡ constantRow c ⌝ }
+{
+    [c, 0, 0, 0, 0, 0, 0, 0]
+}
+
+// What inversion answers: the number, and the inverse row, or the zero row on a refusal.
+pub struct Inverted {
+    pub number: u8,
+    pub row: [u8; 8],
+}
+
+// The inverse row: the seventh power divided by the eighth, which is the constant row of the eighth power of the coefficients' XOR.
+pub fn inverse(g: [u8; 8]) -> Inverted
+    ensures { λ r. ⌜ r ≡ inverted g (rowRefusal g) ⌝ }
+{
+    let sum = row_sum(g);
+    if sum == 0 {
+        return Inverted {
+            number: 13,
+            row: [0u8; 8],
+        };
+    }
+    let eighth = arithmetic::power(sum, 8);
+    let reciprocal = arithmetic::power(eighth, 254);
+    let row = row_of(mixing::mix_row(constant_row(reciprocal), power(g, 7)));
+    Inverted {
+        number: 0,
+        row: row,
+    }
 }

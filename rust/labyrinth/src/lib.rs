@@ -1,5 +1,6 @@
 //! The block cipher Labyrinth, and over it CBC and CTR of NIST SP 800-38A and the tag of SP 800-38B (CMAC): a safe wrapper of the library in
-//! Rattle that is proved against the article and these standards. Every function expands a key, does one operation and keeps nothing.
+//! Rattle that is proved against the article and these standards. Each function that takes a key expands it, does one operation and keeps
+//! nothing; two mix a word, and two make a row.
 //!
 //! What is proved is the library behind the C interface; this wrapper is not. It hands over what it is given, unchecked, and returns what
 //! the library answered. Safe Rust keeps to what the proofs ask of a caller: slices are valid, and a destination overlaps nothing.
@@ -104,11 +105,13 @@ extern "C" {
     ) -> u8;
     fn labyrinth_mix(word: u64) -> u64;
     fn labyrinth_mix_row(row: *const u8, row_len: usize, word: u64, out: *mut u64) -> u8;
+    fn labyrinth_row_product(g: *const u8, g_len: usize, h: *const u8, h_len: usize, dst: *mut u8, dst_len: usize) -> u8;
+    fn labyrinth_row_inverse(row: *const u8, row_len: usize, dst: *mut u8, dst_len: usize) -> u8;
 }
 
 /// Why the library refused: the number of documents 01 and 02. The destination, or the tag to be made, then holds what it held before.
-/// (Document 02's 12, a working key of another n than 1 for a tag, can't come about: a [`TagKey`] has no n. Nor can the library's 4 for
-/// a row that isn't eight bytes: [`mix_row`] takes no other.)
+/// (Document 02's 12, a working key of another n than 1 for a tag, can't come about: a [`TagKey`] has no n. Nor can the library's 4 and 5
+/// for rows that aren't eight bytes: [`mix_row`], [`row_product`] and [`row_inverse`] take and give no others.)
 #[derive(Clone, Copy, Debug, PartialEq, Eq, Hash)]
 #[non_exhaustive]
 pub enum Error {
@@ -231,8 +234,8 @@ impl fmt::Debug for TagKey<'_> {
 type Block = unsafe extern "C" fn(usize, usize, *const u8, usize, *const u8, usize, *mut u8, usize) -> u8;
 type Cbc = unsafe extern "C" fn(usize, usize, *const u8, usize, *const u8, usize, *const u8, usize, *mut u8, usize) -> u8;
 
-// Of every call below: a slice's pointer is valid for its length, and dst, or the tag to be made, borrowed mutably, and yes and out,
-// variables, overlap nothing else. That is all that the library asks of its caller; lengths and sizes may be anything.
+// Of every call below: a slice's pointer is valid for its length, and dst, or the tag to be made, borrowed mutably, and yes, out and a row to
+// be made, variables, overlap nothing else. That is all that the library asks of its caller; lengths and sizes may be anything.
 impl Key<'_> {
     fn block(&self, map: Block, src: &[u8], dst: &mut [u8]) -> Result<(), Error> {
         let Key { n, l, bytes: key } = *self;
@@ -323,6 +326,40 @@ pub fn mix_row(row: &[u8; 8], word: u64) -> Result<u64, Error> {
     let mut out = 0;
     answer(unsafe { labyrinth_mix_row(row.as_ptr(), row.len(), word, &mut out) })?;
     Ok(out)
+}
+
+/// The product of two rows, any rows: coefficient i is the XOR over j of g_j times h_((i - j) mod 8). Mixing by g and then by h is mixing by
+/// their product; it has an inverse exactly if both have.
+///
+/// Never refused: the library looks at lengths only, and those are right by type. Were it to refuse, the archive would be at fault and not
+/// the caller, who could do nothing about an [`Error`]; so that is a panic.
+pub fn row_product(g: &[u8; 8], h: &[u8; 8]) -> [u8; 8] {
+    let mut dst = [0; 8];
+    let number = unsafe { labyrinth_row_product(g.as_ptr(), g.len(), h.as_ptr(), h.len(), dst.as_mut_ptr(), dst.len()) };
+    assert_eq!(number, 0, "the library refused to multiply two rows of eight bytes");
+    dst
+}
+
+/// The inverse of a row: the one row whose product with it is 01 and seven 00. Mixing by it undoes mixing by the row. Refused with 13 if the
+/// coefficients XOR to zero: there is none then.
+///
+/// So a word that was mixed by one row is converted to another, here the published one, without the word itself:
+///
+/// ```
+/// use labyrinth::{mix, mix_row, row_inverse, row_product, Error};
+///
+/// let old = [0x02, 0x07, 0x01, 0x8E, 0x35, 0x11, 0xC4, 0x5B];
+/// let published = [0x01, 0x01, 0x03, 0x0F, 0x0A, 0x1F, 0x0F, 0x0C];
+/// let converting = row_product(&row_inverse(&old)?, &published);
+/// let kept = mix_row(&old, 0x0123456789ABCDEF)?;
+/// assert_eq!(mix_row(&converting, kept)?, mix(0x0123456789ABCDEF));
+/// assert_eq!(row_inverse(&[1, 1, 0, 0, 0, 0, 0, 0]), Err(Error::RowSum));
+/// # Ok::<(), Error>(())
+/// ```
+pub fn row_inverse(row: &[u8; 8]) -> Result<[u8; 8], Error> {
+    let mut dst = [0; 8];
+    answer(unsafe { labyrinth_row_inverse(row.as_ptr(), row.len(), dst.as_mut_ptr(), dst.len()) })?;
+    Ok(dst)
 }
 
 #[cfg(test)]
@@ -438,12 +475,14 @@ mod tests {
         assert_eq!(mix(0x0101010101010101), 0x1A1A1A1A1A1A1A1A);
     }
 
+    const PUBLISHED: [u8; 8] = [0x01, 0x01, 0x03, 0x0F, 0x0A, 0x1F, 0x0F, 0x0C];
+    const NEUTRAL: [u8; 8] = [1, 0, 0, 0, 0, 0, 0, 0];
+
     #[test]
     fn mixing_by_a_row() {
-        let published = [0x01, 0x01, 0x03, 0x0F, 0x0A, 0x1F, 0x0F, 0x0C];
         for word in (0..64).map(|i| 0x0123456789ABCDEF_u64.rotate_left(i)).chain([0, 1, 0x100, u64::MAX]) {
-            assert_eq!(mix_row(&published, word), Ok(mix(word)));
-            assert_eq!(mix_row(&[1, 0, 0, 0, 0, 0, 0, 0], word), Ok(word));
+            assert_eq!(mix_row(&PUBLISHED, word), Ok(mix(word)));
+            assert_eq!(mix_row(&NEUTRAL, word), Ok(word));
             // g_k alone, 02: the word rotated by k bytes, each byte doubled modulo 12D
             let doubled = ((word & 0x7F7F7F7F7F7F7F7F) << 1) ^ ((word >> 7 & 0x0101010101010101) * 0x2D);
             for k in 0..8 {
@@ -457,6 +496,66 @@ mod tests {
             assert_eq!(mix_row(&[1, 2, 4, 8, 16, 32, 64, 127], word), Err(Error::RowSum));
         }
         assert_eq!(mix_row(&[0, 1, 2, 3, 4, 5, 6, 8], 1), Ok(0x0806050403020100));
+    }
+
+    // Any rows; none of those in the first half has an inverse.
+    fn rows() -> Vec<[u8; 8]> {
+        let mut row = PUBLISHED;
+        let mut next = |accepted: bool| {
+            for (i, b) in row.iter_mut().enumerate() {
+                *b = b.wrapping_mul(0x8D).wrapping_add(0x37 + i as u8);
+            }
+            let rest = row[1..].iter().fold(0, |sum, b| sum ^ b);
+            row[0] = if accepted { rest ^ row[0].max(1) } else { rest };
+            row
+        };
+        let refused: Vec<_> = [[0; 8], [7; 8], [1, 2, 4, 8, 16, 32, 64, 127]].into_iter().chain((0..37).map(|_| next(false))).collect();
+        refused.into_iter().chain([PUBLISHED, NEUTRAL, [0, 0, 0, 0, 0, 0, 0, 0xFF]]).chain((0..37).map(|_| next(true))).collect()
+    }
+
+    #[test]
+    fn products_of_rows() {
+        // g_k alone, 02: the row turned by k places, each coefficient doubled modulo 12D
+        for k in 0..8 {
+            let mut row = [0; 8];
+            row[k] = 2;
+            for g in rows() {
+                let mut doubled = g.map(|b| (b << 1) ^ ((b >> 7) * 0x2D));
+                doubled.rotate_right(k);
+                assert_eq!(row_product(&g, &row), doubled);
+            }
+        }
+        assert_eq!(row_product(&[0, 0, 0, 0, 0, 0, 0, 0x80], &[0, 0x80, 0, 0, 0, 0, 0, 0]), [0x72, 0, 0, 0, 0, 0, 0, 0]);
+        for g in rows() {
+            assert_eq!(row_product(&g, &NEUTRAL), g);
+            for h in rows() {
+                let product = row_product(&g, &h);
+                assert_eq!(row_product(&h, &g), product);
+                let both = mix_row(&g, 0x0123456789ABCDEF).and_then(|word| mix_row(&h, word));
+                assert_eq!(mix_row(&product, 0x0123456789ABCDEF), both);
+            }
+        }
+    }
+
+    #[test]
+    fn inverses_of_rows() {
+        assert_eq!(row_inverse(&PUBLISHED), Ok([0x35, 0xC0, 0xC7, 0xA9, 0x9E, 0xC6, 0x2E, 0xF3]));
+        let rows = rows();
+        let (refused, accepted) = rows.split_at(rows.len() / 2);
+        for row in refused {
+            assert_eq!(row_inverse(row), Err(Error::RowSum));
+        }
+        for row in accepted {
+            let inverse = row_inverse(row).unwrap();
+            assert_eq!(row_product(row, &inverse), NEUTRAL);
+            assert_eq!(row_inverse(&inverse), Ok(*row));
+            let converting = row_product(&inverse, &PUBLISHED);
+            for word in [0, 1, 0x100, 0x0123456789ABCDEF, u64::MAX] {
+                let mixed = mix_row(row, word).unwrap();
+                assert_eq!(mix_row(&inverse, mixed), Ok(word));
+                assert_eq!(mix_row(&converting, mixed), Ok(mix(word)));
+            }
+        }
     }
 
     #[test]

@@ -1,4 +1,4 @@
--- The count stays within twenty thousand.
+-- The count stays within forty thousand.
 -- Assumes nothing.
 use Prim.Native.Nat.{_≤_, _-_}
 use borrow.Author.Needs.{needs}
@@ -6,10 +6,10 @@ use Rattle.row_vectors.proofs.main.Statement.{statement}
 use Rattle.row_vectors.proofs.main.Tie as tie
 
 abbrev Inv-loop : tie.InvT-loop
-Inv-loop i₀ i = i ≤ 20000
+Inv-loop i₀ i = i ≤ 40000
 
 abbrev μ-loop : tie.MeasureT-loop
-μ-loop i₀ i = 20000 - i
+μ-loop i₀ i = 40000 - i
 
 loop-holds : tie.Need-loop-holds Inv-loop μ-loop
 loop-holds c = search needs

@@ -1,0 +1,57 @@
+-- The word of the one row, mixed by the other.
+-- Assumes nothing.
+use mathlib.Core.Path.{_≡_, sym, ap, _∙_}
+use mathlib.Core.List.{List}
+use Prim.Native.Nat.{ℕ, _+_}
+use native.Mathlib.Omega.{arith}
+use borrow.Kind.Array.{good-length, eInt}
+use mir.Syntax.{w8}
+use lib.ListN.{getD}
+use Rattle.field.specs.Mixing.{mix}
+use Rattle.field.proofs.Words.{join-cong}
+use Rattle.buffers.specs.Words.{wordAt}
+use Rattle.buffers.proofs.Words.{word-at}
+use Rattle.rows.specs.Inverse.{Row}
+use Rattle.rows.proofs.Ring.{bytesOf, wordOf, product-word}
+use borrow.Author.Needs.{needs, elem-fits}
+use Rattle.rows.proofs.product.Statement.{statement}
+use Rattle.rows.proofs.product.Tie as tie
+
+slice-aggregate-load-word : tie.Need-slice-aggregate-load-word
+slice-aggregate-load-word c = search needs
+
+load-word-requires : tie.Need-load-word-requires
+load-word-requires c κs = search needs
+
+mix-row-requires : tie.Need-mix-row-requires
+mix-row-requires c κs = search needs
+
+row-of-requires : tie.Need-row-of-requires
+row-of-requires c κs = search needs
+
+-- what is handed in is a row
+row : (s : tie.Start) → Row (s .args .t1)
+row s = (good-length (eInt w8) 8 (s .args .t1) _ (s .good .0), λ i. elem-fits w8 w8 (s .args .t1) _ i (s .good .0 .1 .1) tt .fits)
+
+loaded : (g : List ℕ) → Row g → wordAt g 0 ≡ wordOf g
+loaded g r = word-at g 0 (omega (arith, r .0)) ∙ join-cong 8 (λ b. getD g (0 + b) 0) (λ b. getD g b 0) (λ b l. ap (λ (i : ℕ). getD g i 0) (omega arith))
+
+returns : tie.Need-returns
+returns c =
+    let m = c .before in
+    let s = m .before .before .before in
+    let g = s .args .t1 in
+    let h = s .args .h in
+    let word : m .before .load-word .result ≡ wordAt g 0 = m .before .load-word .ensures in
+    let mixed : m .mix-row .result ≡ mix h (m .before .load-word .result) = m .mix-row .ensures in
+    c .row-of .ensures ∙ ap bytesOf (mixed ∙ ap (mix h) (word ∙ loaded g (row s))) ∙ sym (product-word g h (row s))
+
+pub product-spec : {M : Type 1} → statement M
+product-spec =
+    tie.close
+    (tie.spec
+    slice-aggregate-load-word
+    load-word-requires
+    mix-row-requires
+    row-of-requires
+    returns)
