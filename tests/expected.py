@@ -125,7 +125,7 @@ def row_inverse(g):
     return bytes(line[8] for line in lines)
 
 
-# document 02, Job 5, as the request's issue has it: the published row's inverse
+# the published row's inverse, as it was given with document 02's Job 5
 PUBLISHED_INVERSE = bytes.fromhex("35C0C7A99EC62EF3")
 
 

@@ -1,9 +1,9 @@
 // What takes rows of eight coefficients (document 02, Jobs 4 and 5): mixing a word, making the merged table, the product of two rows and the
 // inverse row. The field stays 12D. A row whose coefficients XOR to zero gets 13; the product takes any rows.
 ghost use mathlib.Core.Path.{_≡_};
-ghost use lib.ListN.{length, getD};
+ghost use lib.ListN.{length};
 ghost use Rattle.field.specs.Lists.{tabulate, iterate};
-ghost use Rattle.field.specs.Words.{byte, join};
+ghost use Rattle.field.specs.Words.{byte};
 ghost use Rattle.field.specs.Mixing as spec;
 ghost use Rattle.field.specs.Mixing.{rowSum};
 ghost use Rattle.field.specs.Merged.{merged};
