@@ -6,6 +6,7 @@ import sys
 
 sys.dont_write_bytecode = True
 sys.path.insert(0, os.path.join(os.path.dirname(os.path.abspath(__file__)), "archivists"))
+import archivists_rows
 import labyrinth
 import modes
 
@@ -21,22 +22,11 @@ def cipher(n, l, key):
     return found
 
 
-def mixed(row, word):
-    """Its program mixes by the row in G."""
-    if len(row) != 8:
-        raise ValueError("a row has eight coefficients")
-    kept, labyrinth.G = labyrinth.G, list(row)
-    try:
-        return labyrinth.cmbn_poly(word)
-    finally:
-        labyrinth.G = kept
-
-
 def answer(op, *fields):
     if op == "mix":
         return f"{labyrinth.cmbn_poly(int(fields[0], 16)):016x}"
     if op == "mix_row":
-        return f"0 {mixed(data(fields[0]), int(fields[1], 16)):016x}"
+        return f"0 {archivists_rows.mixed(data(fields[0]), int(fields[1], 16)):016x}"
     if op in ("cmac", "cmac_verify"):
         l, key, message, tag = fields
         made = modes.cmac(cipher(1, l, key), data(message), len(data(tag)))

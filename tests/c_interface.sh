@@ -82,32 +82,13 @@ convert_agrees() {
     python3 -B - "$1" <<'END'
 import sys
 
-sys.path.insert(0, "tests/archivists")
-import labyrinth
-
-
-def mixed(row, word):
-    """The archivists' program mixes by the row in G."""
-    kept, labyrinth.G = labyrinth.G, row
-    try:
-        return labyrinth.cmbn_poly(word)
-    finally:
-        labyrinth.G = kept
-
-
-def product(g, h):
-    """Exponent by exponent: x^j x^k is x^((j + k) mod 8)."""
-    made = [0] * 8
-    for j in range(8):
-        for k in range(8):
-            made[(j + k) % 8] ^= labyrinth.gf_mul(g[j], h[k])
-    return made
-
+sys.path.insert(0, "tests")
+from archivists_rows import labyrinth, mixed, product
 
 with open(sys.argv[1]) as file:
     said = dict(line.rstrip("\n").split(": ", 1) for line in file)
-old, inverse, converting = (list(bytes.fromhex(said[name])) for name in ("old row", "inverse", "converting row"))
-right = len(old) == 8 and product(old, inverse) == [1, 0, 0, 0, 0, 0, 0, 0] and product(inverse, labyrinth.G) == converting
+old, inverse, converting = (bytes.fromhex(said[name]) for name in ("old row", "inverse", "converting row"))
+right = len(old) == 8 and product(old, inverse) == bytes([1, 0, 0, 0, 0, 0, 0, 0]) and product(inverse, labyrinth.G) == converting
 for word in ("word 1", "word 2", "word 3"):
     first, before, after = (int(said[word + name], 16) for name in ("", " mixed", " converted"))
     right = right and mixed(old, first) == before and labyrinth.cmbn_poly(first) == mixed(converting, before) == after

@@ -14,6 +14,7 @@ import sys
 
 sys.dont_write_bytecode = True
 sys.path.insert(0, os.path.join(os.path.dirname(os.path.abspath(__file__)), "archivists"))
+import archivists_rows
 import labyrinth
 import modes
 
@@ -40,9 +41,6 @@ def products():
 
 
 LARGE = (1 << 64) - 1
-
-# the archivists' product of all pairs of bytes
-FIELD = [[labyrinth.gf_mul(a, b) for b in range(256)] for a in range(256)]
 
 # rows: 01 and seven 00; the published row; the zero row; one that XORs to zero without being zero
 ROWS = [bytes([1]).ljust(8, b"\0"), bytes(labyrinth.G), bytes(8), bytes(range(8))]
@@ -90,41 +88,6 @@ def refused(row):
     return functools.reduce(operator.xor, row) == 0
 
 
-def mixed_by(row, word):
-    """By the archivists' program with another row in the published one's place."""
-    published, labyrinth.G = labyrinth.G, list(row)
-    try:
-        return labyrinth.cmbn_poly(word)
-    finally:
-        labyrinth.G = published
-
-
-def row_product(g, h):
-    """Exponent by exponent: x^j x^k is x^((j + k) mod 8)."""
-    made = [0] * 8
-    for j in range(8):
-        for k in range(8):
-            made[(j + k) % 8] ^= FIELD[g[j]][h[k]]
-    return bytes(made)
-
-
-def row_inverse(g):
-    """The row h with g h = 1, by elimination: eight equations, of which the ith has g_(i - j) before h_j; None where there is no such row."""
-    lines = [[g[(i - j) % 8] for j in range(8)] + [int(i == 0)] for i in range(8)]
-    for column in range(8):
-        pivot = next((i for i in range(column, 8) if lines[i][column]), None)
-        if pivot is None:
-            return None
-        lines[column], lines[pivot] = lines[pivot], lines[column]
-        factor = FIELD[lines[column][column]].index(1)
-        lines[column] = [FIELD[factor][x] for x in lines[column]]
-        for i in range(8):
-            if i != column:
-                times = FIELD[lines[i][column]]
-                lines[i] = [x ^ times[y] for x, y in zip(lines[i], lines[column])]
-    return bytes(line[8] for line in lines)
-
-
 # the published row's inverse, as it was given with document 02's Job 5
 PUBLISHED_INVERSE = bytes.fromhex("35C0C7A99EC62EF3")
 
@@ -133,20 +96,20 @@ def row_vectors():
     """Document 02, Job 4: 13 for a row that XORs to zero, and the zero word, or the buffer as it was; then 5 for a buffer that isn't 256 words.
     Job 5: products, and inverse rows with their products, or 13 and the zero row."""
     for row, word in rows_to_mix():
-        yield f"mix {13 if refused(row) else 0} {0 if refused(row) else mixed_by(row, word):016x}\n"
+        yield f"mix {13 if refused(row) else 0} {0 if refused(row) else archivists_rows.mixed(row, word):016x}\n"
     for row, room in rows_to_tabulate():
         number = 13 if refused(row) else 5 if room != 256 else 0
         before = (0x5A5A5A5A5A5A0000 + i for i in range(room))
-        made = before if number else (mixed_by(row, labyrinth.S[b]) for b in range(256))
+        made = before if number else (archivists_rows.mixed(row, labyrinth.S[b]) for b in range(256))
         yield f"table {number}" + "".join(f" {word:016x}" for word in made) + "\n"
     for g, h in rows_to_multiply():
-        yield f"product {row_product(g, h).hex()}\n"
+        yield f"product {archivists_rows.product(g, h).hex()}\n"
     for row in rows_to_invert():
-        inverse = row_inverse(row)
+        inverse = archivists_rows.inverse(row)
         if (inverse is None) != refused(row) or (row == ROWS[1] and inverse != PUBLISHED_INVERSE):
             raise SystemExit(f"expected.py: the inverse of {row.hex()} is {inverse and inverse.hex()}")
         inverse = inverse or bytes(8)
-        yield f"inverse {13 if refused(row) else 0} {inverse.hex()} {row_product(row, inverse).hex()}\n"
+        yield f"inverse {13 if refused(row) else 0} {inverse.hex()} {archivists_rows.product(row, inverse).hex()}\n"
 
 
 def found(kind, count):

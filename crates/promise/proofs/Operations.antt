@@ -12,7 +12,7 @@ use Rattle.modes.specs.Refusals.{cbcRefusal, ctrRefusal, cmacRefusal}
 use Rattle.cmac.specs.declared.Verified.{Verified}
 use Rattle.promise.specs.Demands.{Steps, WorksTape, Expands, Enciphers, Deciphers, SealsCbc, OpensCbc, RunsCtr, ComesBack}
 use Rattle.rows.proofs.Rows.{published-mixed}
-use Rattle.promise.specs.Requests.{MakesTag, VerifiesTag, GetsYes, Multiplies, MixesBy, MixesAsBefore, MakesTable, MakesTheTableLent, LooksUp, FindsMixed, MultipliesRows, Inverts}
+use Rattle.promise.specs.Requests.{MakesTag, VerifiesTag, GetsYes, Multiplies, MixesBy, MixesAsBefore, MakesTable, MakesTheTableLent, LooksUp, FindsMixed, MultipliesRows, Inverts, ConvertsWord}
 use Rattle.promise.proofs.Requests.{looks-up, published-table}
 use Rattle.tape.proofs.step as tape-step
 use Rattle.tape_run.proofs.run as tape-run
@@ -29,6 +29,7 @@ use Rattle.cmac.proofs.verify as verify
 use Rattle.round_trips.proofs.tag_made_and_verified as tag-made-and-verified
 use Rattle.round_trips.proofs.cbc_there_and_back as cbc-there-and-back
 use Rattle.round_trips.proofs.ctr_there_and_back as ctr-there-and-back
+use Rattle.round_trips.proofs.word_converted as word-converted
 use Rattle.rows.proofs.mix as mix-word
 use Rattle.rows.proofs.make_table as make-table
 use Rattle.rows.proofs.product as product-of-rows
@@ -158,6 +159,9 @@ module _ (κs : Lfts 0) where
   pub inverts : (a : _) (z : _) (e : _) → inverse-of-row.Reads.Learnt κs a z e → Inverts (a .0) z
   inverts a z e h = h
 
+  pub converts-word : (a : _) (z : _) (e : _) → word-converted.Reads.Learnt κs a z e → ConvertsWord (a .0) (a .1 .0) (a .1 .1 .0) z
+  converts-word a z e h = h
+
 -- ---- every function named here meets its contract
 
 module _ {M : Type 1} where
@@ -217,6 +221,9 @@ module _ {M : Type 1} where
 
   pub inverse-of-row-met : inverse-of-row.Statement.statement M
   inverse-of-row-met = inverse-of-row.Met.met
+
+  pub word-converted-met : word-converted.Statement.statement M
+  word-converted-met = word-converted.Met.met
 
   pub look-up-met : look-up.Statement.statement M
   look-up-met = look-up.Met.met

@@ -30,18 +30,20 @@ use Rattle.labyrinth.proofs.Refusals.{legal-iff}
 use Rattle.rows.specs.declared.Mixed.{Mixed}
 use Rattle.rows.specs.declared.Inverted.{Inverted}
 use Rattle.rows.specs.Rows.{rowRefusal, tableRefusal, mixed}
-use Rattle.rows.specs.Inverse.{Row, constantRow, neutral, inverseRow, inverted}
+use Rattle.rows.specs.Inverse.{constantRow, neutral, inverseRow, inverted}
 use Rattle.rows.proofs.Rows.{row-zero, row-iff, table-zero, table-five, table-iff, mixed-done, mixed-refused, row-accepted, lookup-made}
 use Rattle.rows.proofs.Ring.{product-comm, product-assoc, mix-order, mix-neutral, product-neutral}
 use Rattle.rows.proofs.Inverses.{inverse-row, product-inverse, only-inverse, no-inverse, mix-back, mix-forth, neutral-accepted, inverse-accepted, product-accepted, product-left, product-right, inverted-done, inverted-refused, published-inverse}
 use Rattle.modes.specs.Cmac.{K1, K2, tag}
-use Rattle.modes.specs.Refusals.{cmacRefusal}
+use Rattle.modes.specs.Refusals.{cmacRefusal, firstOf}
 use Rattle.labyrinth.proofs.Agree.{E-used}
 use Rattle.modes.proofs.Maps.{keeps-one}
 use Rattle.modes.proofs.Cmac.{length-doubled, bytes-doubled, valid-iff}
 use Rattle.modes.proofs.Doubling.{doubled-remainder, only-remainder}
 use Rattle.modes.proofs.Refusals.{cmac-iff, cmac-taken, cmac-large, cmac-short, cmac-long}
 use Rattle.modes.proofs.Used.{tag-used}
+use Rattle.modes.proofs.Twice.{first-passed}
+use Rattle.round_trips.proofs.Rows.{converted}
 use Rattle.cmac.specs.Verification.{verification}
 use Rattle.operands.specs.Operands.{zeros}
 use Rattle.tape.specs.Steps.{keyRefusal, setKey, mapRefusal, mapBlock, mixWord, command, step}
@@ -321,5 +323,5 @@ pub converts : Converts
 converts g h r s e w l =
     let k = inverted g (rowRefusal g) .row in
     let one : by h (by k (by g w)) ≡ by h w = ap (by h) (word-back g r e w l .0) in
-    let t : Row k = rw (inverse-answered g e) (inverse-row g) in
-    (one, sym (one-answer-after-another k h t s (by g w)) ∙ one)
+    let at-once : mixed (product k h) (by g w) (rowRefusal (product k h)) ≡ mixed h w (firstOf (rowRefusal g) (rowRefusal h)) = converted g h w r s l in
+    (one, ap (λ (m : Mixed). m .word) at-once ∙ ap (λ (n : ℕ). mixed h w n .word) (sym (first-passed (rowRefusal g) (rowRefusal h) e)))

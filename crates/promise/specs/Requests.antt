@@ -28,7 +28,7 @@ use Rattle.rows.specs.Inverse.{Row, neutral, inverseRow, inverted}
 use Rattle.modes.specs.Strings.{number}
 use Rattle.modes.specs.Cmac.{K1, K2, tag}
 use Rattle.modes.specs.Gf128.{Remainder}
-use Rattle.modes.specs.Refusals.{cmacRefusal}
+use Rattle.modes.specs.Refusals.{cmacRefusal, firstOf}
 use Rattle.cmac.specs.declared.Verified.{Verified}
 use Rattle.cmac.specs.Verification.{verification}
 use Rattle.tape.specs.declared.Tape.{Tape}
@@ -285,3 +285,7 @@ abbrev pub Converts : Type 0
 Converts =
     (g h : List ℕ) → Row g → Row h → rowRefusal g ≡ 0 → (w : ℕ) → w < 2 ^ 64
     → let k = inverted g (rowRefusal g) .row in (by h (by k (by g w)) ≡ by h w) × (by (product k h) (by g w) ≡ by h w)
+
+-- and of the operations themselves, called one after another for a word mixed by g: it is mixed by h then, or the first refusal is answered
+abbrev pub ConvertsWord : List ℕ → List ℕ → ℕ → Mixed → Type 0
+ConvertsWord g h w answer = answer ≡ mixed h w (firstOf (rowRefusal g) (rowRefusal h))

@@ -1,7 +1,8 @@
-// A run sealed and opened again by the operations themselves, and a tag made and verified: for all arguments the source comes back, or the
-// first refusal, and a tag that was made gets a yes.
+// A run sealed and opened again by the operations themselves, a tag made and verified, a word converted from one row to another: for all
+// arguments the source comes back, or the first refusal, a tag that was made gets a yes, and the word is the one mixed by the other row.
 use cmac::Verified;
 use labyrinth::WorkingKey;
+use rows::Mixed;
 ghost use mathlib.Core.Path.{_≡_};
 ghost use Prim.Native.Nat.{_*_};
 ghost use lib.Dec.{eqb};
@@ -13,6 +14,7 @@ ghost use Rattle.modes.specs.Cbc.{cbcSeal};
 ghost use Rattle.modes.specs.Ctr.{ctr as ctrRun};
 ghost use Rattle.modes.specs.Cmac.{tag as madeTag};
 ghost use Rattle.modes.specs.Refusals.{cbcRefusal, ctrRefusal, cmacRefusal, firstOf};
+ghost use Rattle.rows.specs.Rows.{rowRefusal, mixed};
 
 // Seals src to mid and, if that was not refused, opens mid to dst: then dst holds what src holds.
 pub fn cbc_there_and_back(
@@ -60,4 +62,15 @@ pub fn tag_made_and_verified(k: WorkingKey, message: &[u8], tag: &mut [u8]) -> V
 {
     cmac::make(k, message, tag);
     cmac::verify(k, message, tag)
+}
+
+// Mixes a word by the row g and converts it to the row h, by the product of g's inverse row and h: the word mixed by h, unless one of the two
+// rows is refused.
+pub fn word_converted(g: [u8; 8], h: [u8; 8], w: u64) -> Mixed
+    ensures { λ r. ⌜ r ≡ mixed h w (firstOf (rowRefusal g) (rowRefusal h)) ⌝ }
+{
+    let x = rows::inverse(g);
+    let inverse = x.row;
+    let m = rows::mix(g, w);
+    rows::mix(rows::product(inverse, h), m.word)
 }

@@ -6,6 +6,13 @@ use mathlib.Core.List.{List, _∷_}
 use Prim.Native.Nat.{ℕ, zero, suc, _+_, _-_, _%_, _^_, _<_}
 use native.Mathlib.Omega.{arith}
 use lib.ListN.{getD, replicate}
+use mir.Syntax.{w8}
+use mir.Val.{Val}
+use denote.Laws.{Is}
+use denote.Plain.{UInt}
+use denote.Array.{Array}
+use borrow.Kind.Array.{good-length, eInt}
+use borrow.Author.Needs.{elem-fits}
 use Rattle.field.specs.Lists.{tabulate, xorSum, pick, iterate}
 use Rattle.field.specs.Words.{byte, join}
 use Rattle.field.specs.Field.{mul, power}
@@ -31,6 +38,10 @@ wordOf g = join 8 (λ i. getD g i 0)
 
 pub bytes-row : (w : ℕ) → Row (bytesOf w)
 bytes-row w = (length-tabulate 8 (byte w), tabulate-small 8 (byte w) (2 ^ 8) (omega arith) (byte-lt w))
+
+-- an array of eight bytes that a function is handed
+pub given-row : (g : List ℕ) (vs : List Val) → Is (Array (UInt w8) 8) g vs → Row g
+given-row g vs p = (good-length (eInt w8) 8 g vs p, λ i. elem-fits w8 w8 g _ i (p .1 .1) tt .fits)
 
 pub bytes-word : (g : List ℕ) → Row g → bytesOf (wordOf g) ≡ g
 bytes-word g r = sym (tabulated 8 (byte (wordOf g)) 0 g (r .0) (λ k l. sym (byte-join 8 (λ i. getD g i 0) (r .1) k l)))

@@ -4,16 +4,14 @@ use mathlib.Core.Path.{_≡_, sym, ap, _∙_}
 use mathlib.Core.List.{List}
 use Prim.Native.Nat.{ℕ, _+_}
 use native.Mathlib.Omega.{arith}
-use borrow.Kind.Array.{good-length, eInt}
-use mir.Syntax.{w8}
 use lib.ListN.{getD}
 use Rattle.field.specs.Mixing.{mix}
 use Rattle.field.proofs.Words.{join-cong}
 use Rattle.buffers.specs.Words.{wordAt}
 use Rattle.buffers.proofs.Words.{word-at}
 use Rattle.rows.specs.Inverse.{Row}
-use Rattle.rows.proofs.Ring.{bytesOf, wordOf, product-word}
-use borrow.Author.Needs.{needs, elem-fits}
+use Rattle.rows.proofs.Ring.{bytesOf, wordOf, given-row, product-word}
+use borrow.Author.Needs.{needs}
 use Rattle.rows.proofs.product.Statement.{statement}
 use Rattle.rows.proofs.product.Tie as tie
 
@@ -29,10 +27,6 @@ mix-row-requires c κs = search needs
 row-of-requires : tie.Need-row-of-requires
 row-of-requires c κs = search needs
 
--- what is handed in is a row
-row : (s : tie.Start) → Row (s .args .t1)
-row s = (good-length (eInt w8) 8 (s .args .t1) _ (s .good .0), λ i. elem-fits w8 w8 (s .args .t1) _ i (s .good .0 .1 .1) tt .fits)
-
 loaded : (g : List ℕ) → Row g → wordAt g 0 ≡ wordOf g
 loaded g r = word-at g 0 (omega (arith, r .0)) ∙ join-cong 8 (λ b. getD g (0 + b) 0) (λ b. getD g b 0) (λ b l. ap (λ (i : ℕ). getD g i 0) (omega arith))
 
@@ -42,9 +36,10 @@ returns c =
     let s = m .before .before .before in
     let g = s .args .t1 in
     let h = s .args .h in
+    let row : Row g = given-row g _ (s .good .0) in
     let word : m .before .load-word .result ≡ wordAt g 0 = m .before .load-word .ensures in
     let mixed : m .mix-row .result ≡ mix h (m .before .load-word .result) = m .mix-row .ensures in
-    c .row-of .ensures ∙ ap bytesOf (mixed ∙ ap (mix h) (word ∙ loaded g (row s))) ∙ sym (product-word g h (row s))
+    c .row-of .ensures ∙ ap bytesOf (mixed ∙ ap (mix h) (word ∙ loaded g row)) ∙ sym (product-word g h row)
 
 pub product-spec : {M : Type 1} → statement M
 product-spec =
