@@ -22,7 +22,11 @@ use Rattle.rows.proofs.Rows.{row-zero, row-iff, mixed-number}
 use Rattle.rows.proofs.Inverses.{inverted-number, inverted-done}
 use Rattle.labyrinth_c.specs.OneShot.{rowNumber, productNumber, inverseNumber}
 
--- in plain terms: taken exactly when it has eight bytes that don't XOR to zero
+-- in plain terms: 4 for any other length, and taken exactly when it has eight bytes that don't XOR to zero
+pub row-four : (g : List ℕ) → (length g ≡ 8 → ⊥) → rowNumber g ≡ 4
+unfolding rowNumber
+row-four g h = rw (ne-eqb (length g) 8 h)
+
 pub row-taken : (g : List ℕ) → (rowNumber g ≡ 0) ↔ ((length g ≡ 8) × (rowSum g ≡ 0 → ⊥))
 unfolding rowNumber
 row-taken g = (
@@ -61,8 +65,8 @@ module _ (g : List ℕ) (w : ℕ) where
   RowDone number out = (number ≡ rowNumber g) × (out ≡ mixed g w number .word)
 
   pub row-length : (length g ≡ 8 → ⊥) → RowDone 4 0
-  unfolding rowNumber mixed
-  row-length h = (rw (ne-eqb (length g) 8 h), refl)
+  unfolding mixed
+  row-length h = (sym (row-four g h), refl)
 
   pub row-eight : length g ≡ 8 → {r : List ℕ} {m : Mixed} → r ≡ g → m ≡ mixed r w (rowRefusal r) → RowDone (m .number) (m .word)
   unfolding rowNumber
@@ -102,8 +106,8 @@ module _ (g before : List ℕ) where
   InverseDone number after = (number ≡ inverseNumber g (length before)) × (after ≡ outcome number (inverseRow g) before)
 
   pub inverse-length : (length g ≡ 8 → ⊥) → InverseDone 4 before
-  unfolding inverseNumber rowNumber firstOf
-  inverse-length p = (rw (ne-eqb (length g) 8 p), refl)
+  unfolding inverseNumber firstOf
+  inverse-length p = (rw (row-four g p), refl)
 
   -- of what inversion answered for the row as an array, r
   module _ (e : length g ≡ 8) {r : List ℕ} (p : r ≡ g) {x : Inverted} (q : x ≡ inverted r (rowRefusal r)) where
