@@ -45,3 +45,34 @@ def inverse(g):
             if i != column:
                 lines[i] = [x ^ times(lines[i][column], y) for x, y in zip(lines[i], lines[column])]
     return bytes(line[8] for line in lines)
+
+
+SUBSETS = [[subset for subset in range(256) if subset.bit_count() == size] for size in range(9)]
+MEMBERS = [[k for k in range(8) if subset >> k & 1] for subset in range(256)]
+
+
+def singular(row):
+    """The sizes of which the matrix that the row makes has a square submatrix with determinant 0. All 12,869 determinants, each expanded by its
+    first line. There is a word with a bytes before and b after mixing that are not zero, a + b < 9, exactly where there is such a submatrix: of a
+    of the 8 - b lines that give zeros and of the word's a places."""
+    table = [[times(a, b) for b in range(256)] for a in sorted(set(row))]
+    lines = [[table[sorted(set(row)).index(row[(i - j) % 8])] for j in range(8)] for i in range(8)]
+    smaller, found = {(0, 0): 1}, set()
+    for size in range(1, 9):
+        these = {}
+        for chosen in SUBSETS[size]:
+            first, others = lines[MEMBERS[chosen][0]], chosen & (chosen - 1)
+            for places in SUBSETS[size]:
+                determinant = 0
+                for j in MEMBERS[places]:
+                    determinant ^= first[j][smaller[others, places ^ 1 << j]]
+                these[chosen, places] = determinant
+        if 0 in these.values():
+            found.add(size)
+        smaller = these
+    return found
+
+
+def active(word):
+    """How many of its eight bytes are not zero."""
+    return sum(1 for byte in word.to_bytes(8, "little") if byte)

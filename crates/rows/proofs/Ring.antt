@@ -19,13 +19,15 @@ use Rattle.field.specs.Field.{mul, power}
 use Rattle.field.specs.Mixing.{mix, product, rowSum, scale}
 use Rattle.field.proofs.Lists.{length-tabulate, tabulate-cong, tabulated}
 use Rattle.field.proofs.Sums.{xorSum-cong, xorSum-lt, into, xorSum-swap, cycle}
-use Rattle.field.proofs.Words.{byte-lt, join-lt, byte-join, word-ext}
+use Rattle.field.proofs.Words.{byte-lt, join-lt, join-cong, byte-join, word-ext}
 use Rattle.field.proofs.Field.{mul-xor-l, mul-xor-r, mul-assoc, mul-lt, one-mul, mul-one, zero-mul}
 use Rattle.field.proofs.Power.{power-lt}
 use Rattle.field.proofs.Scale.{scale-lt, byte-scale}
 use Rattle.field.proofs.Mixing.{conv, conv-comm, product-conv, getD-product, mix-product, mix-mix}
 use Rattle.field.proofs.Eight.{single, mix-single, mix-eightfold}
 use Rattle.labyrinth.proofs.Blocks.{tabulate-small}
+use Rattle.buffers.specs.Words.{wordAt}
+use Rattle.buffers.proofs.Words.{word-at}
 use Rattle.rows.specs.Inverse.{Row, constantRow, neutral, rowPower}
 
 -- ---- rows and words
@@ -42,6 +44,13 @@ bytes-row w = (length-tabulate 8 (byte w), tabulate-small 8 (byte w) (2 ^ 8) (om
 -- an array of eight bytes that a function is handed
 pub given-row : (g : List ℕ) (vs : List Val) → Is (Array (UInt w8) 8) g vs → Row g
 given-row g vs p = (good-length (eInt w8) 8 g vs p, λ i. elem-fits w8 w8 g _ i (p .1 .1) tt .fits)
+
+-- a row in a buffer, read as a word
+pub loaded : (g : List ℕ) → Row g → wordAt g 0 ≡ wordOf g
+loaded g r = word-at g 0 (omega (arith, r .0)) ∙ join-cong 8 (λ b. getD g (0 + b) 0) (λ b. getD g b 0) (λ b l. ap (λ (i : ℕ). getD g i 0) (omega arith))
+
+pub byte-loaded : (g : List ℕ) {w : ℕ} → Row g → w ≡ wordAt g 0 → (k : ℕ) → k < 8 → byte w k ≡ getD g k 0
+byte-loaded g r e k l = ap (λ (w : ℕ). byte w k) (e ∙ loaded g r) ∙ byte-join 8 (λ i. getD g i 0) (r .1) k l
 
 pub bytes-word : (g : List ℕ) → Row g → bytesOf (wordOf g) ≡ g
 bytes-word g r = sym (tabulated 8 (byte (wordOf g)) 0 g (r .0) (λ k l. sym (byte-join 8 (λ i. getD g i 0) (r .1) k l)))

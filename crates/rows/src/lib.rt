@@ -79,7 +79,7 @@ pub fn make_table(g: [u8; 8], table: &mut [u64]) -> u8
 // ---- rows multiply
 
 // The row whose coefficients are the bytes of a word, the lowest first.
-fn row_of(w: u64) -> [u8; 8]
+pub fn row_of(w: u64) -> [u8; 8]
     ensures { λ r. ⌜ r ≡ tabulate 8 (byte w) ⌝ }
 {
     let mut r = [0u8; 8];

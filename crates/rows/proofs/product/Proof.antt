@@ -1,16 +1,10 @@
 -- The word of the one row, mixed by the other.
 -- Assumes nothing.
 use mathlib.Core.Path.{_≡_, sym, ap, _∙_}
-use mathlib.Core.List.{List}
-use Prim.Native.Nat.{ℕ, _+_}
-use native.Mathlib.Omega.{arith}
-use lib.ListN.{getD}
 use Rattle.field.specs.Mixing.{mix}
-use Rattle.field.proofs.Words.{join-cong}
 use Rattle.buffers.specs.Words.{wordAt}
-use Rattle.buffers.proofs.Words.{word-at}
 use Rattle.rows.specs.Inverse.{Row}
-use Rattle.rows.proofs.Ring.{bytesOf, wordOf, given-row, product-word}
+use Rattle.rows.proofs.Ring.{bytesOf, given-row, loaded, product-word}
 use borrow.Author.Needs.{needs}
 use Rattle.rows.proofs.product.Statement.{statement}
 use Rattle.rows.proofs.product.Tie as tie
@@ -26,9 +20,6 @@ mix-row-requires c κs = search needs
 
 row-of-requires : tie.Need-row-of-requires
 row-of-requires c κs = search needs
-
-loaded : (g : List ℕ) → Row g → wordAt g 0 ≡ wordOf g
-loaded g r = word-at g 0 (omega (arith, r .0)) ∙ join-cong 8 (λ b. getD g (0 + b) 0) (λ b. getD g b 0) (λ b l. ap (λ (i : ℕ). getD g i 0) (omega arith))
 
 returns : tie.Need-returns
 returns c =

@@ -1,0 +1,42 @@
+-- Bytes 0 to 7 are the rows of a, bytes 8 to 15 the rows of m times a.
+-- Assumes nothing.
+use mathlib.Core.Path.{sym, _∙_}
+use native.Mathlib.Omega.{arith}
+use Rattle.field.specs.Mixing.{mixBy}
+use Rattle.judge.proofs.Elimination.{byte-mixBy, sixteen-low, sixteen-high}
+use borrow.Author.Needs.{needs}
+use Rattle.judge.proofs.byte_row.Statement.{statement}
+use Rattle.judge.proofs.byte_row.Tie as tie
+
+mul-result : tie.Need-mul-result
+mul-result c = search needs
+
+array-copy-out-result : tie.Need-array-copy-out-result
+array-copy-out-result c = search needs
+
+returns : tie.Need-returns
+returns c w = sym (byte-mixBy _ w _ (omega arith)) ∙ sixteen-low _ _ _ (omega arith)
+
+mul-row-times : tie.Need-mul-row-times
+mul-row-times c = search needs
+
+array-copy-out-row-times : tie.Need-array-copy-out-row-times
+array-copy-out-row-times c = search needs
+
+row-times-requires : tie.Need-row-times-requires
+row-times-requires c κs = search needs
+
+returns-2 : tie.Need-returns-2
+returns-2 c w = c .row-times .ensures w ∙ sym (byte-mixBy _ _ _ (omega arith)) ∙ sixteen-high _ _ _ (omega arith)
+
+pub byte-row-spec : {M : Type 1} → statement M
+byte-row-spec =
+    tie.close
+    (tie.spec
+    mul-result
+    array-copy-out-result
+    returns
+    mul-row-times
+    array-copy-out-row-times
+    row-times-requires
+    returns-2)
