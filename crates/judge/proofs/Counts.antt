@@ -33,9 +33,9 @@ pub nonzero-most : (n : ℕ) (f : ℕ → ℕ) → nonzero n f ≤ n
 unfolding nonzero
 nonzero-most zero f = omega arith
 nonzero-most (suc n) f = elim (ℕ-discrete (f n) 0) [
-    | yes e ↦ omega (arith, count-zero n f e, nonzero-most n f)
-    | no e ↦ omega (arith, count-one n f e, nonzero-most n f)
-  ]
+  | yes e ↦ omega (arith, count-zero n f e, nonzero-most n f)
+  | no e ↦ omega (arith, count-one n f e, nonzero-most n f)
+]
 
 -- one byte more, as a loop has it
 pub count-skip : (k : ℕ) (f : ℕ → ℕ) {n b : ℕ} → n ≡ nonzero k f → b ≡ f k → b ≡ 0 → n ≡ nonzero (k + 1) f
@@ -79,18 +79,18 @@ module _ (m a b : List (List ℕ)) (y : List ℕ) (n z r : ℕ) (row : (w : ℕ)
     where
       enough : (r ≡ 0 → ⊥) → nonzero (suc z) (sixteen m r) + suc n ≤ suc z
       enough o = elim (ℕ-discrete (sixteen m r z) 0) [
-          | yes t ↦ omega (arith, s .enough o, count-zero z (sixteen m r) t)
-          | no t ↦ omega (arith, s .enough o, count-one z (sixteen m r) t)
-        ]
+        | yes t ↦ omega (arith, s .enough o, count-zero z (sixteen m r) t)
+        | no t ↦ omega (arith, s .enough o, count-one z (sixteen m r) t)
+      ]
 
       kept : (w : ℕ) → mixBy a w ≡ w → sixteen m w z ≡ 0 → mixBy b w ≡ w
       kept w k t = less .same w (row w ∙ ap (λ (x : ℕ). sixteen m x z) k ∙ t) ∙ k
 
       none : r ≡ 0 → (w : ℕ) → (w ≡ 0 → ⊥) → mixBy a w ≡ w → suc z < nonzero (suc z) (sixteen m w) + suc n
       none p w o k = elim (ℕ-discrete (sixteen m w z) 0) [
-          | yes t ↦ omega (arith, f .none e w o (kept w k t), count-zero z (sixteen m w) t)
-          | no t ↦ omega (arith, s .none p w o k, count-one z (sixteen m w) t)
-        ]
+        | yes t ↦ omega (arith, f .none e w o (kept w k t), count-zero z (sixteen m w) t)
+        | no t ↦ omega (arith, s .none p w o k, count-one z (sixteen m w) t)
+      ]
 
 -- the same as code has it, with z bytes left and n zeros still asked
 module _ (m a b : List (List ℕ)) (y : List ℕ) (n z r : ℕ) (hn : 0 < n) (hz : 0 < z) (row : (w : ℕ) → dot y w ≡ sixteen m (mixBy a w) (z - 1)) (less : Restricted a y b) where
@@ -129,6 +129,6 @@ module _ (g : List ℕ) (r : ℕ) (small : r < 2 ^ 64) (f : Found (matrix g) (ma
     where
       only : GoodEnough g → eqb r 0 ≡ true
       only h = elim (ℕ-discrete r 0) [
-          | yes e ↦ eq-eqb r 0 e
-          | no o ↦ let z : ⊥ = omega (arith, h r small o, short o .2) in absurd z
-        ]
+        | yes e ↦ eq-eqb r 0 e
+        | no o ↦ let z : ⊥ = omega (arith, h r small o, short o .2) in absurd z
+      ]

@@ -1,6 +1,6 @@
--- A word mixed by a row that has a length; the product of two such rows, and the inverse.
+-- A word mixed by a row that has a length; the product of two such rows, the inverse, and the verdict.
 -- Assumes nothing.
-use mathlib.Core.Path.{_≡_, refl, sym, ap, _∙_}
+use mathlib.Core.Path.{_≡_, refl, sym, ap, _∙_, subst}
 use mathlib.Core.Logic.{_↔_}
 use mathlib.Core.List.{List}
 use Prim.Native.Nat.{ℕ}
@@ -20,7 +20,9 @@ use Rattle.rows.specs.Rows.{rowRefusal, mixed}
 use Rattle.rows.specs.Inverse.{inverseRow, inverted}
 use Rattle.rows.proofs.Rows.{row-zero, row-iff, mixed-number}
 use Rattle.rows.proofs.Inverses.{inverted-number, inverted-done}
-use Rattle.labyrinth_c.specs.OneShot.{rowNumber, productNumber, inverseNumber}
+use Rattle.judge.specs.declared.Verdict.{Verdict}
+use Rattle.judge.specs.Judge.{Judged}
+use Rattle.labyrinth_c.specs.OneShot.{yesByte, rowNumber, productNumber, inverseNumber, judgeNumber, VerdictGiven}
 
 -- in plain terms: 4 for any other length, and taken exactly when it has eight bytes that don't XOR to zero
 pub row-four : (g : List ℕ) → (length g ≡ 8 → ⊥) → rowNumber g ≡ 4
@@ -135,3 +137,20 @@ module _ (g before : List ℕ) where
       inverse-done l a =
           let t : rowRefusal g ≡ 0 = sym (ap (λ (y : Inverted). y .number) answered ∙ inverted-number g (rowRefusal g)) ∙ z in
           (passed 0 (rw (eq-eqb (length before) 8 l)), a ∙ ap (λ (y : Inverted). y .row) (answered ∙ inverted-done g t))
+
+-- in plain terms: judged exactly when it has eight bytes, and 4 otherwise
+pub judge-taken : (g : List ℕ) → (judgeNumber g ≡ 0) ↔ (length g ≡ 8)
+unfolding judgeNumber
+judge-taken g = (λ e. eqb-true (length g) 8 (unless-zero (eqb (length g) 8) 3 _ e .0), λ h. rw (eq-eqb (length g) 8 h))
+
+pub judge-four : (g : List ℕ) → (length g ≡ 8 → ⊥) → judgeNumber g ≡ 4
+unfolding judgeNumber
+judge-four g h = rw (ne-eqb (length g) 8 h)
+
+-- as the code has it
+pub judge-length : (g : List ℕ) → (length g ≡ 8 → ⊥) → (4 ≡ judgeNumber g) × VerdictGiven g 4 0 0
+judge-length g h = (sym (judge-four g h), (λ e. let z : ⊥ = omega arith in absurd z, λ n. (refl, refl)))
+
+pub judge-eight : (g : List ℕ) {h : List ℕ} {v : Verdict} {said : ℕ} → length g ≡ 8 → h ≡ g → Judged h v → said ≡ yesByte 0 (v .yes)
+    → (0 ≡ judgeNumber g) × VerdictGiven g 0 said (v .word)
+judge-eight g {h} {v} l e j y = (sym (judge-taken g .1 l), (λ n. (v, subst (λ (x : List ℕ). Judged x v) e j, y, refl), λ n. absurd (n refl)))

@@ -1,6 +1,7 @@
 -- A key expanded and used at once: the working key, and the number, expansion's before the operation's own.
 -- Assumes nothing.
 use Prim.Native.Nat.{ℕ, zero, suc}
+use mathlib.Core.Path.{_≡_}
 use mathlib.Core.Bool.{Bool, true, false}
 use mathlib.Core.List.{List}
 use lib.Dec.{eqb}
@@ -10,6 +11,8 @@ use Rattle.labyrinth.specs.Cipher.{article}
 use Rattle.labyrinth.specs.Refusals.{unless, expandRefusal, expansion}
 use Rattle.modes.specs.Refusals.{firstOf}
 use Rattle.rows.specs.Rows.{rowRefusal}
+use Rattle.judge.specs.declared.Verdict.{Verdict}
+use Rattle.judge.specs.Judge.{Judged}
 
 -- the working key that a key expands to; n = 0 and zeros if it is refused
 unfoldable pub keyOf : ℕ → ℕ → List ℕ → WorkingKey
@@ -36,3 +39,12 @@ productNumber g h room = unless (eqb (length g) 8) 4 (unless (eqb (length h) 8) 
 -- the inverse row: a row's number, then 5 if the destination isn't eight bytes
 unfoldable pub inverseNumber : List ℕ → ℕ → ℕ
 inverseNumber g room = firstOf (rowNumber g) (unless (eqb room 8) 5 0)
+
+-- judging a row: 4 if it isn't eight bytes, and nothing else
+unfoldable pub judgeNumber : List ℕ → ℕ
+judgeNumber g = unless (eqb (length g) 8) 4 0
+
+-- what is set, by the number: what a verdict on the row says, or a no and the zero word
+abbrev pub VerdictGiven : List ℕ → ℕ → ℕ → ℕ → Type 0
+VerdictGiven g number said word =
+    (number ≡ 0 → (v : Verdict) × Judged g v × (said ≡ yesByte 0 (v .yes)) × (word ≡ v .word)) × ((number ≡ 0 → ⊥) → (said ≡ 0) × (word ≡ 0))

@@ -15,7 +15,7 @@ ghost use Rattle.modes.specs.Cmac.{tag as madeTag};
 ghost use Rattle.modes.specs.Refusals.{cbcRefusal, ctrRefusal, cmacRefusal};
 ghost use Rattle.rows.specs.Rows.{mixed};
 ghost use Rattle.rows.specs.Inverse.{inverseRow};
-ghost use Rattle.labyrinth_c.specs.OneShot.{keyOf, numberOf, yesByte, rowNumber, productNumber, inverseNumber};
+ghost use Rattle.labyrinth_c.specs.OneShot.{keyOf, numberOf, yesByte, rowNumber, productNumber, inverseNumber, judgeNumber, VerdictGiven};
 
 // Enciphers a block.
 #[no_mangle]
@@ -244,5 +244,22 @@ pub extern "C" fn labyrinth_row_inverse(row: &[u8], dst: &mut [u8]) -> u8
     }
     let inverse = found.row;
     put_row(inverse, dst);
+    0
+}
+
+// Judges a row: is it good enough? Every call sets yes and word.
+#[no_mangle]
+pub extern "C" fn labyrinth_row_judge(row: &[u8], yes: &mut u8, word: &mut u64) -> u8
+    ensures number { λ r. ⌜ r ≡ judgeNumber (now (row .entry)) ⌝ }
+    ensures verdict { λ r. ⌜ VerdictGiven (now (row .entry)) r (now (yes .exit)) (now (word .exit)) ⌝ }
+{
+    if row.len() != 8 {
+        *yes = 0;
+        *word = 0;
+        return 4;
+    }
+    let v = judge::judge(eight(row));
+    *yes = as_byte(v.yes);
+    *word = v.word;
     0
 }
