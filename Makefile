@@ -1,4 +1,4 @@
-# make run      the main job: document 01's example tape, made from text, worked, and shown with its answers
+# make run      the main job: document 01's example tape, made from text, worked, and shown with its answers; and the published row judged
 # make test     the gate
 # make lib      the static library and its header, to target/dist
 # make example  builds the library and runs examples/page.c and examples/convert.c over it
@@ -8,12 +8,14 @@
 .PHONY: run test lib example compare bench paper
 
 run:
-	rt check tape_program
+	rt check tape_program judge_row
 	tools/write_tape tools/example.txt >target/example.tape
 	target/bin/tape_program <target/example.tape >target/example.answers
 	@echo "the $$(wc -c <target/example.answers) bytes of the answers:"
 	@od -A n -v -t x1 target/example.answers
 	tools/show_tape target/example.tape target/example.answers
+	@echo "target/bin/judge_row judges rows, sixteen hexadecimal digits each, on its standard input; the published one:"
+	echo 01 01 03 0F 0A 1F 0F 0C | target/bin/judge_row
 
 test:
 	tests/gate.sh

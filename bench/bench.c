@@ -1,6 +1,6 @@
 /* Times the proved code against C in several shapes and OpenSSL's Camellia and ARIA at n = 1, 2 and 4: many blocks each by itself, both
-   ways, and runs by CBC and CTR; then tags, runs of all lengths, expansion, short runs, mixing, merged tables, and the product and
-   inverse of rows. Always the best of several passes, all in turn.
+   ways, and runs by CBC and CTR; then tags, runs of all lengths, expansion, short runs, mixing, merged tables, the product and inverse
+   of rows, and a verdict on a row. Always the best of several passes, all in turn.
    First C must give the same bytes. Times are of the processor given to the thread, so that other work disturbs them little; short runs go
    by the clock, which is read faster. It assumes Linux on x86-64. */
 #define _POSIX_C_SOURCE 199309L
@@ -24,6 +24,7 @@ uint64_t labyrinth_mix(uint64_t word);
 uint8_t labyrinth_mix_row(const uint8_t *row, size_t row_length, uint64_t word, uint64_t *out);
 uint8_t labyrinth_row_product(const uint8_t *g, size_t g_length, const uint8_t *h, size_t h_length, uint8_t *dst, size_t dst_length);
 uint8_t labyrinth_row_inverse(const uint8_t *row, size_t row_length, uint8_t *dst, size_t dst_length);
+uint8_t labyrinth_row_judge(const uint8_t *row, size_t row_length, uint8_t *yes, uint64_t *word);
 
 enum { KINDS = 5, LONG = 1 << 20, LONGEST = 1 << 24 };
 static const char *const KIND[KINDS] = {"enciphering", "deciphering", "CBC sealing", "CBC opening", "CTR"};
@@ -395,6 +396,36 @@ static void rows(void) {
     printf("The inverse row, ours: %.0f ns. C's time, which divides all bytes at once / ours: %.2f.\n", best[2], best[3] / best[2]);
 }
 
+static uint64_t judge(const uint8_t row[8]) {
+    uint8_t yes;
+    uint64_t word;
+    labyrinth_row_judge(row, 8, &yes, &word);
+    return word;
+}
+
+/* C, which searches in the same order, judges as ours does; 0 if not */
+static int same_verdicts(void) {
+    int same = judge(lab_row) == 0 && lab_judge(lab_row) == 0;
+    for (int i = 0; i < 300; i++) {
+        uint64_t row = next_random();
+        same &= judge((const uint8_t *)&row) == lab_judge((const uint8_t *)&row);
+    }
+    if (!same) printf("verdicts: DIFFER\n");
+    return same;
+}
+
+static void verdicts(void) {
+    uint64_t (*const by[])(const uint8_t[8]) = {judge, lab_judge};
+    double best[2] = {0};
+    for (int pass = 0; pass < 100; pass++)
+        for (int i = 0; i < 2; i++) {
+            double began = now();
+            by[i](lab_row);
+            keep(&best[i], now() - began);
+        }
+    printf("A yes, of the published row, ours: %.2f ms. C's time by the same loops / ours: %.2f.\n", best[0] / 1e6, best[1] / best[0]);
+}
+
 int main(void) {
     for (int i = 0; i < 32; i++) words[i] = next_random();
     for (int i = 0; i < 64; i++) start[i] = (uint8_t)(next_random() >> 32);
@@ -404,7 +435,7 @@ int main(void) {
     for (int kind = 0; kind < KINDS; kind++)
         for (int size = 0; size < 3; size++)
             if (!same_bytes(kind, 1 << size)) return 1;
-    if (!same_tags() || !same_mixed() || !same_rows()) return 1;
+    if (!same_tags() || !same_mixed() || !same_rows() || !same_verdicts()) return 1;
     if (others_version() && !(others_work(CAMELLIA) && others_work(ARIA))) return 1;
     ratios();
     tags();
@@ -413,5 +444,6 @@ int main(void) {
     short_runs();
     mixing();
     rows();
+    verdicts();
     return 0;
 }

@@ -256,20 +256,29 @@ uint64_t lab_mix_by_matrix(uint64_t w) {
     return mixed;
 }
 
+INLINE uint64_t times_x_each(uint64_t w) {
+    uint64_t h = w >> 7 & 0x0101010101010101;
+    return (w & 0x7F7F7F7F7F7F7F7F) << 1 ^ h * 0x2D;
+}
+
 INLINE uint64_t times_each(uint64_t w, uint8_t c) {
     uint64_t value = 0;
     for (int k = 0; k < 8; k++) {
         value ^= (c & 1) * w;
-        uint64_t h = w >> 7 & 0x0101010101010101;
-        w = (w & 0x7F7F7F7F7F7F7F7F) << 1 ^ h * 0x2D;
+        w = times_x_each(w);
         c >>= 1;
     }
     return value;
 }
 
 uint64_t lab_mix(const uint8_t row[8], uint64_t w) {
-    uint64_t mixed = 0;
-    for (int k = 0; k < 8; k++) mixed ^= rol(times_each(w, row[k]), 8 * k);
+    uint64_t power[8], mixed = 0;
+    for (int t = 0; t < 8; t++, w = times_x_each(w)) power[t] = w;
+    for (int k = 0; k < 8; k++) {
+        uint64_t product = 0;
+        for (int t = 0; t < 8; t++) product ^= (row[k] >> t & 1) * power[t];
+        mixed ^= rol(product, 8 * k);
+    }
     return mixed;
 }
 
@@ -299,4 +308,68 @@ int lab_row_inverse(const uint8_t g[8], uint8_t made[8]) {
     for (int k = 0; k < 7; k++) w = lab_mix(g, w);
     store(made, times_each(w, power(power(sum, 8), 254)));
     return 0;
+}
+
+/* Eight of the sixteen bytes of a word and of the word mixed are asked to be zero, every choice of eight in turn; a gives the words that are left. */
+typedef struct {
+    uint8_t row[8][8];
+} matrix;
+
+INLINE void add_times(uint8_t made[8], const uint8_t x[8], uint8_t c, const uint8_t y[8]) { store(made, load(x) ^ times_each(load(y), c)); }
+
+INLINE int pivot(const uint8_t y[8]) {
+    int p = 0;
+    while (p < 8 && !y[p]) p++;
+    return p;
+}
+
+INLINE matrix restricted(const matrix *a, const uint8_t y[8]) {
+    static const uint8_t zeros[8];
+    matrix made = *a;
+    uint8_t u[8];
+    int p = pivot(y);
+    if (p == 8) return made;
+    add_times(u, zeros, power(y[p], 254), y);
+    for (int i = 0; i < 8; i++) add_times(made.row[i], a->row[i], a->row[i][p], u);
+    return made;
+}
+
+INLINE void byte_row(const matrix *m, const matrix *a, int z, uint8_t y[8]) {
+    if (z < 8) {
+        memcpy(y, a->row[z], 8);
+        return;
+    }
+    memset(y, 0, 8);
+    for (int k = 0; k < 8; k++) add_times(y, y, m->row[z - 8][k], a->row[k]);
+}
+
+INLINE uint64_t word_left(const matrix *a) {
+    for (int i = 0; i < 8; i++) {
+        int p = pivot(a->row[i]);
+        uint64_t w = 0;
+        if (p == 8) continue;
+        for (int k = 0; k < 8; k++) w |= (uint64_t)a->row[k][p] << 8 * k;
+        return w;
+    }
+    return 0;
+}
+
+static uint64_t search(const matrix *m, const matrix *a, int n, int z) {
+    uint8_t y[8];
+    if (n == 0) return word_left(a);
+    if (z < n) return 0;
+    byte_row(m, a, z - 1, y);
+    matrix less = restricted(a, y);
+    uint64_t w = search(m, &less, n - 1, z - 1);
+    return w ? w : search(m, a, n, z - 1);
+}
+
+uint64_t lab_judge(const uint8_t row[8]) {
+    matrix m, every;
+    for (int i = 0; i < 8; i++)
+        for (int j = 0; j < 8; j++) {
+            m.row[i][j] = row[(i + 8 - j) % 8];
+            every.row[i][j] = i == j;
+        }
+    return search(&m, &every, 8, 16);
 }

@@ -22,3 +22,5 @@ uint64_t lab_mix(const uint8_t row[8], uint64_t w);
 void lab_make_table(const uint8_t row[8], uint64_t table[256]);
 void lab_row_product(const uint8_t g[8], const uint8_t h[8], uint8_t made[8]);
 int lab_row_inverse(const uint8_t g[8], uint8_t made[8]);
+/* 0 if every word that isn't zero has nine or more non-zero bytes before and after mixing by the row together; else a word that has fewer */
+uint64_t lab_judge(const uint8_t row[8]);

@@ -1,6 +1,6 @@
 /* The block cipher Labyrinth, and over it CBC and CTR of NIST SP 800-38A and the tag of SP 800-38B (CMAC). Each function that takes a key
- * expands it, does one operation and keeps nothing; two mix a word, and two make a row. n is 1, 2 or 4: a block has 16n bytes. l is 2, 3 or
- * 4: a key has 8nl bytes. Tags are at n = 1.
+ * expands it, does one operation and keeps nothing; two mix a word, two make a row, and one judges a row. n is 1, 2 or 4: a block has 16n
+ * bytes. l is 2, 3 or 4: a key has 8nl bytes. Tags are at n = 1.
  *
  * Returned is the number of documents 01 and 02: 0 if it was done, else the first of these that applies, and then dst, or the tag to be
  * made, holds what it held before:
@@ -9,21 +9,21 @@
  *   3  the key isn't 8nl bytes
  *   6  the start block isn't 16n bytes
  *   4  the source isn't 16n bytes (a block), or no multiple of that (CBC); a row isn't 8 bytes (here the number is our choice)
- *  13  the row's eight coefficients XOR to zero (a product takes any rows)
+ *  13  the row's eight coefficients XOR to zero (a product takes any rows, and any row is judged)
  *   5  the destination isn't 16n bytes (a block), or isn't as long as the source (CBC, CTR), or isn't 8 bytes (a row)
  *  11  the tag isn't 8 to 16 bytes
  *
  * 0 alone does not say that a page is genuine: by a wrong key, or altered, it opens to something too, and verifying its tag returns 0 for a
- * no as for a yes. Look at *yes.
+ * no as for a yes. So does judging a row. Look at *yes.
  *
  * What the caller owes; what is proved of these functions holds only then:
  *   - Each pointer is valid for its length: key, start, src, msg, row, g, h and the tag to be verified for reading, dst and the tag to be
  *     made for writing. Any alignment will do. NULL only with length 0: such a pointer is never followed. yes points to one byte for
- *     writing, out to a uint64_t for writing, aligned as a uint64_t is; neither is ever NULL.
- *   - dst, the tag to be made, yes and out overlap nothing else of their call; what is only read may overlap. So nothing is sealed or
- *     opened in place, and no product or inverse put in the place of a row that it is made from.
- *   - While a call runs nobody else writes to its buffers or reads dst, the tag to be made, yes or out, which may hold other bytes then
- *     than in the end.
+ *     writing, out and row_judge's word to a uint64_t for writing, aligned as a uint64_t is; none of these is ever NULL.
+ *   - dst, the tag to be made, yes, out and row_judge's word overlap nothing else of their call; what is only read may overlap. So nothing
+ *     is sealed or opened in place, and no product or inverse put in the place of a row that it is made from.
+ *   - While a call runs nobody else writes to its buffers or reads dst, the tag to be made, yes, out or row_judge's word, which may hold
+ *     other bytes then than in the end.
  *   - The stack has LABYRINTH_STACK bytes left.
  *
  * The calls are reentrant, also in threads: there is no heap and no state. The archive has no writable data and refers to no symbols but
@@ -83,6 +83,15 @@ uint8_t labyrinth_mix_row(const uint8_t *row, size_t row_len, uint64_t word, uin
  * So words mixed by an old row are converted to a new one by mixing them by the product of the old row's inverse and the new row. */
 uint8_t labyrinth_row_product(const uint8_t *g, size_t g_len, const uint8_t *h, size_t h_len, uint8_t *dst, size_t dst_len);
 uint8_t labyrinth_row_inverse(const uint8_t *row, size_t row_len, uint8_t *dst, size_t dst_len);
+
+/* Judges a row. It is good enough if every word that isn't zero has nine or more bytes that aren't zero, counted in the word and in the
+ * word mixed by the row together. Mixing is as at labyrinth_mix_row, here by any row, also one that XORs to zero. The published row is good
+ * enough.
+ *
+ * Returned is 4 or 0 only, and 0 is no yes: look at *yes. Every call sets *yes and *word. With 0, *yes is 1 and *word is 0 if the row is
+ * good enough; else *yes is 0 and *word is a word that isn't zero and has eight or fewer. Which of these words it is is left open. With 4
+ * both are 0. A yes took about 5 ms where the stack was measured, a no less. */
+uint8_t labyrinth_row_judge(const uint8_t *row, size_t row_len, uint8_t *yes, uint64_t *word);
 
 #ifdef __cplusplus
 }

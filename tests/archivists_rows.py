@@ -1,5 +1,5 @@
-"""Rows over the archivists' program: a word mixed by a row, and over its product of two bytes the product of two rows and the inverse row,
-which it has not."""
+"""Rows over the archivists' program: a word mixed by a row, and over its product of two bytes the product of two rows, the inverse row and
+the determinants that say whether a row is good enough, which it has not."""
 import functools
 import os
 import sys
@@ -55,8 +55,8 @@ def singular(row):
     """The sizes of which the matrix that the row makes has a square submatrix with determinant 0. All 12,869 determinants, each expanded by its
     first line. There is a word with a bytes before and b after mixing that are not zero, a + b < 9, exactly where there is such a submatrix: of a
     of the 8 - b lines that give zeros and of the word's a places."""
-    table = [[times(a, b) for b in range(256)] for a in sorted(set(row))]
-    lines = [[table[sorted(set(row)).index(row[(i - j) % 8])] for j in range(8)] for i in range(8)]
+    by = {a: [times(a, b) for b in range(256)] for a in set(row)}
+    lines = [[by[row[(i - j) % 8]] for j in range(8)] for i in range(8)]
     smaller, found = {(0, 0): 1}, set()
     for size in range(1, 9):
         these = {}
@@ -71,6 +71,10 @@ def singular(row):
             found.add(size)
         smaller = these
     return found
+
+
+# rows drawn at random of which no square submatrix is singular
+GOOD = [bytes.fromhex(row) for row in ("04be10029810c6db", "26e78b0dd8531f6d", "62a0172eb004e3b8", "f7693ae1a15ddd4b")]
 
 
 def active(word):

@@ -1,6 +1,6 @@
 /* The C interface tried: every number in its order, NULL, runs and tags over labyrinth_encipher, mixing by a row, products and inverses of
- * rows, stack use, and lent memory; and that this program notices what it is to notice, by stubs that stand in the library's place and do
- * wrong. tests/c_interface.sh builds and runs it.
+ * rows, verdicts on rows, stack use, and lent memory; and that this program notices what it is to notice, by stubs that stand in the
+ * library's place and do wrong. tests/c_interface.sh builds and runs it.
  *
  *     c_interface [--long] [--seed N]      the seed is for the lent memory; without it one is taken from the clock, and printed */
 #define _GNU_SOURCE
@@ -19,7 +19,7 @@
 
 #include "labyrinth.h"
 
-/* ---- calls: a function of any of the eight shapes with its arguments */
+/* ---- calls: a function of any of the nine shapes with its arguments */
 
 typedef uint8_t block_fn(size_t, size_t, const uint8_t *, size_t, const uint8_t *, size_t, uint8_t *, size_t);
 typedef uint8_t cbc_fn(size_t, size_t, const uint8_t *, size_t, const uint8_t *, size_t, const uint8_t *, size_t, uint8_t *, size_t);
@@ -29,15 +29,17 @@ typedef uint8_t verify_fn(size_t, const uint8_t *, size_t, const uint8_t *, size
 typedef uint8_t row_fn(const uint8_t *, size_t, uint64_t, uint64_t *);
 typedef uint8_t product_fn(const uint8_t *, size_t, const uint8_t *, size_t, uint8_t *, size_t);
 typedef uint8_t inverse_fn(const uint8_t *, size_t, uint8_t *, size_t);
+typedef uint8_t judge_fn(const uint8_t *, size_t, uint8_t *, uint64_t *);
 typedef uint64_t mix_fn(uint64_t);
 
 /* A tag's message is SRC. The tag to be made is DST; the one to be verified stands for START, and DST is *yes, always one byte. A row is
- * KEY, its word q, and DST is *out, always eight bytes. Of a product g is KEY and h is SRC. */
-enum kind { BLOCK, CBC, CTR, CMAC, VERIFY, ROW, PRODUCT, INVERSE, KINDS };
-enum buffer { KEY, START, SRC, DST, BUFFERS };
+ * KEY, its word q, and DST is *out, always eight bytes. Of a product g is KEY and h is SRC. Of a verdict DST is *yes, and WORD, always eight
+ * bytes, is *word. DST and WORD are written, the others are only read. */
+enum kind { BLOCK, CBC, CTR, CMAC, VERIFY, ROW, PRODUCT, INVERSE, JUDGE, KINDS };
+enum buffer { KEY, START, SRC, DST, WORD, BUFFERS };
 static const char *const buffer_names[BUFFERS] = {"key, row or g", "start or the tag to be verified", "src, msg or h",
-                                                  "dst, the tag to be made, yes or out"};
-enum { OPS = 10, MAKES = 5, VERIFIES = 6, MULTIPLIES = 8, INVERTS = 9 };
+                                                  "dst, the tag to be made, yes or out", "word"};
+enum { OPS = 11, MAKES = 5, VERIFIES = 6, MULTIPLIES = 8, INVERTS = 9, JUDGES = 10 };
 
 struct op {
     const char *name;
@@ -45,6 +47,7 @@ struct op {
     int back; /* the number of the op that undoes it; none for a tag or a row */
     union {
         block_fn *block; cbc_fn *cbc; ctr_fn *ctr; cmac_fn *cmac; verify_fn *verify; row_fn *row; product_fn *product; inverse_fn *inverse;
+        judge_fn *judge;
     } fn;
 };
 
@@ -59,6 +62,7 @@ static const struct op library[OPS] = {
     {"labyrinth_mix_row", ROW, -1, {.row = labyrinth_mix_row}},
     {"labyrinth_row_product", PRODUCT, -1, {.product = labyrinth_row_product}},
     {"labyrinth_row_inverse", INVERSE, -1, {.inverse = labyrinth_row_inverse}},
+    {"labyrinth_row_judge", JUDGE, -1, {.judge = labyrinth_row_judge}},
 };
 
 struct call {
@@ -87,23 +91,29 @@ static __attribute__((noinline)) uint8_t run(const struct op *op, const struct c
         return op->fn.row(c->at[KEY], c->len[KEY], c->q, (uint64_t *)(void *)c->at[DST]);
     case PRODUCT:
         return op->fn.product(c->at[KEY], c->len[KEY], c->at[SRC], c->len[SRC], c->at[DST], c->len[DST]);
-    default:
+    case INVERSE:
         return op->fn.inverse(c->at[KEY], c->len[KEY], c->at[DST], c->len[DST]);
+    default:
+        return op->fn.judge(c->at[KEY], c->len[KEY], c->at[DST], (uint64_t *)(void *)c->at[WORD]);
     }
 }
 
 static int is_tag(enum kind kind) { return kind == CMAC || kind == VERIFY; }
 
-static int is_row(enum kind kind) { return kind == ROW || kind == PRODUCT || kind == INVERSE; }
+static int is_row(enum kind kind) { return kind == ROW || kind == PRODUCT || kind == INVERSE || kind == JUDGE; }
 
-/* Whether every call sets DST, also one that is refused. */
-static int always_sets(enum kind kind) { return kind == VERIFY || kind == ROW; }
+/* Whether DST is *yes. */
+static int says_yes(enum kind kind) { return kind == VERIFY || kind == JUDGE; }
+
+/* Whether every call sets DST, and WORD, also one that is refused; they have no length of their own then. */
+static int always_sets(enum kind kind) { return says_yes(kind) || kind == ROW; }
 
 static enum buffer tag_of(enum kind kind) { return kind == CMAC ? DST : START; }
 
 /* Whether the operations of this kind have such a buffer. */
 static int has(enum kind kind, enum buffer b)
 {
+    if (b == WORD) return kind == JUDGE;
     if (is_row(kind)) return b == KEY || b == DST || (b == SRC && kind == PRODUCT);
     return b != START || (kind != BLOCK && kind != CMAC);
 }
@@ -121,8 +131,8 @@ static uint8_t number_of(enum kind kind, const struct call *c)
     size_t n = c->n, l = c->l;
     if (is_row(kind)) {
         if (c->len[KEY] != 8 || (kind == PRODUCT && c->len[SRC] != 8)) return 4;
-        if (kind != PRODUCT && row_sum(c->at[KEY], 8) == 0) return 13;
-        return kind != ROW && c->len[DST] != 8 ? 5 : 0;
+        if ((kind == ROW || kind == INVERSE) && row_sum(c->at[KEY], 8) == 0) return 13;
+        return !always_sets(kind) && c->len[DST] != 8 ? 5 : 0;
     }
     if (n != 1 && n != 2 && n != 4) return 1;
     if (l != 2 && l != 3 && l != 4) return 2;
@@ -153,6 +163,9 @@ static __attribute__((format(printf, 1, 2))) void wrong(const char *text, ...)
     }
     failures++;
 }
+
+/* Whether a stub at work is noticed, so that a trial may end; for trials that take long. */
+static int enough(void) { return quiet && failures > 0; }
 
 static void stop(const char *what)
 {
@@ -254,12 +267,84 @@ static int is_inverse(const uint8_t *row, const uint8_t *inverse)
     return memcmp(product, neutral, 8) == 0;
 }
 
-/* Whether *yes or *out is what it must be after any call, and the tag or the row after one that was done; blocks and runs are not looked
- * at. */
+/* ---- verdicts: a row is good enough exactly if no square submatrix of its matrix is singular */
+
+/* The sizes of singular submatrices, bit k for k lines and k columns. Every determinant is expanded along its first line, so made from
+ * smaller ones; lines and columns are masks. In this field minus is plus. */
+static unsigned singular_sizes(unsigned field, const uint8_t *row)
+{
+    static uint8_t determinants[256][256] = {{1}}, products[8][256], bits[256];
+    unsigned sizes = 0;
+    for (int x = 1; x < 256; x++) {
+        bits[x] = (uint8_t)(bits[x >> 1] + (x & 1));
+        for (int i = 0; i < 8; i++) products[i][x] = times_modulo(field, row[i], (uint8_t)x);
+    }
+    for (unsigned lines = 1; lines < 256; lines++)
+        for (unsigned columns = 1; columns < 256; columns++) {
+            if (bits[lines] != bits[columns]) continue;
+            int first = __builtin_ctz(lines);
+            uint8_t sum = 0;
+            for (int j = 0; j < 8; j++)
+                if (columns >> j & 1) sum ^= products[(first - j) & 7][determinants[lines ^ 1u << first][columns ^ 1u << j]];
+            determinants[lines][columns] = sum;
+            if (sum == 0) sizes |= 1u << bits[lines];
+        }
+    return sizes;
+}
+
+/* A word's bytes that are not zero. */
+static int active(uint64_t word)
+{
+    int count = 0;
+    for (; word; word >>= 8) count += (word & 0xFF) != 0;
+    return count;
+}
+
+/* Such bytes before and after mixing by a row. */
+static int together(const uint8_t *row, uint64_t word) { return active(word) + active(mixed(row, word)); }
+
+/* Rows to judge and the sizes of their singular submatrices: the published one and four more that are good enough, the zero row, 01 and
+ * seven 00, and rows with one such size only, so that words miss by one. */
+static const struct { uint8_t row[8]; unsigned sizes; } to_judge[] = {
+    {{0x01, 0x01, 0x03, 0x0F, 0x0A, 0x1F, 0x0F, 0x0C}, 0},
+    {{0x04, 0xBE, 0x10, 0x02, 0x98, 0x10, 0xC6, 0xDB}, 0},
+    {{0x26, 0xE7, 0x8B, 0x0D, 0xD8, 0x53, 0x1F, 0x6D}, 0},
+    {{0x62, 0xA0, 0x17, 0x2E, 0xB0, 0x04, 0xE3, 0xB8}, 0},
+    {{0xF7, 0x69, 0x3A, 0xE1, 0xA1, 0x5D, 0xDD, 0x4B}, 0},
+    {{0}, 0x1FE},
+    {{0x01}, 0xFE},
+    {{0x8A, 0x85, 0xDF, 0x00, 0xD0, 0xEC, 0xF6, 0xF6}, 1 << 1},
+    {{0x3B, 0xB2, 0x49, 0x13, 0xDC, 0xB9, 0x69, 0x2F}, 1 << 2},
+    {{0xB7, 0x0E, 0x4D, 0x05, 0x5A, 0x92, 0xC8, 0x38}, 1 << 3},
+    {{0x10, 0xA5, 0x5A, 0x79, 0xBE, 0x2C, 0xED, 0x87}, 1 << 4},
+    {{0xE3, 0x35, 0x10, 0x45, 0x93, 0xC8, 0xCF, 0x93}, 1 << 4},
+    {{0xF3, 0xE7, 0xF7, 0x64, 0xD0, 0xE2, 0x13, 0xBD}, 1 << 5},
+    {{0xC2, 0xD3, 0x35, 0x25, 0x9B, 0x80, 0xC4, 0x02}, 1 << 6},
+    {{0x35, 0x14, 0xB1, 0x6F, 0xF8, 0xCB, 0x62, 0xC3}, 1 << 7},
+    {{0x45, 0x3C, 0x18, 0x7E, 0x30, 0x2A, 0xE2, 0xE7}, 1 << 8},
+};
+enum { TO_JUDGE = sizeof to_judge / sizeof *to_judge, GOOD = 5 };
+
+/* Whether a verdict is right: a yes with the zero word, or a no with a word that isn't zero and has eight or fewer; if there is one size k
+ * only, k before and 8 - k after. Which word it is is left open. */
+static int judged_right(const uint8_t *row, uint8_t yes, uint64_t word)
+{
+    unsigned sizes = singular_sizes(FIELD, row);
+    int one_size = (sizes & (sizes - 1)) == 0, before = active(word);
+    if (sizes == 0) return yes == 1 && word == 0;
+    if (yes != 0 || word == 0 || together(row, word) > 8) return 0;
+    return !one_size || (sizes == 1u << before && together(row, word) == 8);
+}
+
+/* Whether *yes, *out or *word is what it must be after any call, and the tag or the row after one that was done; blocks and runs are not
+ * looked at. */
 static int made_right(enum kind kind, const struct call *c)
 {
     uint8_t whole[16];
     int refused = number_of(kind, c) != 0;
+    uint64_t shown = 0;
+    if (kind == JUDGE) memcpy(&shown, c->at[WORD], sizeof shown);
+    if (kind == JUDGE) return refused ? *c->at[DST] == 0 && shown == 0 : judged_right(c->at[KEY], *c->at[DST], shown);
     if (kind == INVERSE) return refused || is_inverse(c->at[KEY], c->at[DST]);
     if (kind == PRODUCT && !refused) multiply(c->at[KEY], c->at[SRC], whole);
     if (kind == PRODUCT) return refused || memcmp(c->at[DST], whole, 8) == 0;
@@ -276,9 +361,12 @@ static int made_right(enum kind kind, const struct call *c)
 static struct {
     enum { HONEST, PAST, BEFORE, WRITES, SWAPS, TOUCHES, DEEP, CALLS_3, ALTERS, SAYS_YES, SAYS_NO, LOOKS_AT_8, KEEPS, SWAPS_13, SUM_FIRST,
            SUMS_7, MIXES, ONE_ROW, TURNS, CUTS, CUTS_H, CUTS_DST, CUTS_32, CUTS_32_H, TAKES_8, FIVE_FIRST, FIVE_BEFORE_13, FIVE_FOR_H,
-           REFUSES_13, ZERO_ROW_ONLY, CLEARS, ALIGNS, OVERRUNS, DROPS, MODULO_11D, SQUARES, COPIES, SIXTH, UNDIVIDED, TIMES_EIGHTH } what;
+           REFUSES_13, ZERO_ROW_ONLY, CLEARS, ALIGNS, OVERRUNS, DROPS, MODULO_11D, SQUARES, COPIES, SIXTH, UNDIVIDED, TIMES_EIGHTH,
+           GIVES_0, KEEPS_WORD, SHOWS_ON_REFUSAL, UNSET_YES, UNSET_WORD, TURNS_ROUND, TAKES_SIZE, EIGHT_WILL_DO, SHOWS_ZERO, SHOWS_NINE,
+           SHOWS_MIXED, SHOWS_REVERSED, SHOWS_WITH_YES, OVERRUNS_WORD } what;
     enum buffer which;
     enum kind kind; /* KINDS for all */
+    int size; /* of submatrices */
 } stub;
 static volatile uint8_t sink;
 static const size_t far = (size_t)1 << 32;
@@ -301,6 +389,7 @@ static uint8_t misdo(enum kind kind, uint8_t number, struct call c)
     case ALTERS: if (number == 0) c.at[DST][c.len[DST] - 1] ^= 0x80; break;
     case CLEARS: if (number && c.len[DST]) memset(c.at[DST], 0, c.len[DST]); break;
     case OVERRUNS: if (number == 0) c.at[DST][c.len[DST]] ^= 1; break;
+    case OVERRUNS_WORD: if (number == 0) c.at[WORD][c.len[WORD]] ^= 1; break;
     case SAYS_YES: if (number == 0) *c.at[DST] = 1; break;
     case SAYS_NO: *c.at[DST] = 0; break;
     default: break;
@@ -466,6 +555,50 @@ static uint8_t stub_row_inverse(const uint8_t *row, size_t row_len, uint8_t *dst
     }
     return misdo(INVERSE, number, c);
 }
+/* A word with nine or more; 1 if the first thousand have none. */
+static uint64_t with_nine(const uint8_t *row)
+{
+    for (uint64_t word = 1; word <= 1000; word++)
+        if (together(row, word) >= 9) return word;
+    return 1;
+}
+static void misjudge(int what, const uint8_t *row, uint8_t *yes, uint64_t *word)
+{
+    int right = *yes;
+    if (what == SAYS_YES || (what == TURNS_ROUND && !right)) *yes = 1;
+    if (what == SAYS_NO || (what == TURNS_ROUND && right)) *yes = 0;
+    if (what == MODULO_11D) *yes = singular_sizes(OTHER_FIELD, row) == 0;
+    if (what == TAKES_SIZE && singular_sizes(FIELD, row) == 1u << stub.size) *yes = 1;
+    if (what == EIGHT_WILL_DO && together(row, *word) == 8) *yes = 1;
+    if (*yes != right) *word = *yes ? 0 : with_nine(row);
+    if (what == SHOWS_WITH_YES && right) *word = with_nine(row);
+    if (what == SHOWS_ZERO) *word = 0;
+    if (what == SHOWS_NINE && !right) *word = with_nine(row);
+    if (what == SHOWS_MIXED) *word = mixed(row, *word);
+    if (what == SHOWS_REVERSED) *word = __builtin_bswap64(*word);
+}
+static uint8_t stub_row_judge(const uint8_t *row, size_t row_len, uint8_t *yes, uint64_t *word)
+{
+    struct call c = {.at = {(uint8_t *)(uintptr_t)row, NULL, NULL, yes, (uint8_t *)word}, .len = {row_len, 0, 0, 1, sizeof *word}};
+    int what = is_at_work(JUDGE) ? (int)stub.what : HONEST;
+    uint8_t held_yes = *yes;
+    uint64_t held_word = *word;
+    if (what == DEEP) deepen();
+    if (what == CUTS) row_len %= 256;
+    if (what == CUTS_32) row_len %= far;
+    if (what == TAKES_8 && row_len > 8) row_len = 8;
+    if (what == ONE_ROW && row_len == 8) row = published;
+    if (what == TURNS && row_len == 8) row = turned(row);
+    if (what == ALIGNS) row = aligned(row);
+    uint8_t number = labyrinth_row_judge(row, row_len, yes, word);
+    if (number == 0) misjudge(what, row, yes, word);
+    if (what == REFUSES_13 && number == 0 && row_sum(row, 8) == 0) number = 13, *word = 0;
+    if (number == 0 ? what == UNSET_YES : what == KEEPS) *yes = held_yes;
+    if (number == 0 ? what == UNSET_WORD : what == KEEPS_WORD) *word = held_word;
+    if (what == SHOWS_ON_REFUSAL && number != 0) *word = 1;
+    if (what == GIVES_0) number = 0;
+    return misdo(JUDGE, number, c);
+}
 
 static const struct op stubs[OPS] = {
     {"stub_encipher", BLOCK, 1, {.block = stub_encipher}},
@@ -478,6 +611,7 @@ static const struct op stubs[OPS] = {
     {"stub_mix_row", ROW, -1, {.row = stub_mix_row}},
     {"stub_row_product", PRODUCT, -1, {.product = stub_row_product}},
     {"stub_row_inverse", INVERSE, -1, {.inverse = stub_row_inverse}},
+    {"stub_row_judge", JUDGE, -1, {.judge = stub_row_judge}},
 };
 
 /* ---- numbers: each function over a grid of n, l and lengths; every buffer of length 0 is NULL */
@@ -503,18 +637,20 @@ static int around(size_t right, size_t *lengths)
 static void number_case(const struct op *op, struct call *c, long *calls, long *seen)
 {
     for (int b = 0; b < BUFFERS; b++) c->at[b] = c->len[b] ? plain[b] + MARGIN : NULL;
-    memcpy(plain[DST], before[DST], sizeof plain[DST]);
+    for (int b = DST; b < BUFFERS; b++) memcpy(plain[b], before[b], sizeof plain[b]);
     uint8_t expected = number_of(op->kind, c), number = run(op, c);
     ++*calls;
     seen[expected]++;
     if (number != expected) wrong(CALL_TEXT "%d, not %d", CALL(op, c), number, expected);
-    size_t written = number == 0 || always_sets(op->kind) ? c->len[DST] : 0;
-    if (memcmp(plain[DST], before[DST], MARGIN) != 0 ||
-        memcmp(plain[DST] + MARGIN + written, before[DST] + MARGIN + written, ROOM + MARGIN - written) != 0)
-        wrong(CALL_TEXT "number %d, and the destination touched", CALL(op, c), number);
-    if (!made_right(op->kind, c)) wrong(CALL_TEXT "number %d, and the tag, *yes, *out or the row is wrong", CALL(op, c), number);
-    if (op->kind <= CTR && written && memcmp(plain[DST] + MARGIN, before[DST] + MARGIN, written) == 0)
-        wrong(CALL_TEXT "number %d, and nothing written", CALL(op, c), number);
+    for (int b = DST; b < BUFFERS; b++) {
+        size_t written = number == 0 || always_sets(op->kind) ? c->len[b] : 0;
+        if (memcmp(plain[b], before[b], MARGIN) != 0 ||
+            memcmp(plain[b] + MARGIN + written, before[b] + MARGIN + written, ROOM + MARGIN - written) != 0)
+            wrong(CALL_TEXT "number %d, and %s touched", CALL(op, c), number, buffer_names[b]);
+        if (op->kind <= CTR && written && memcmp(plain[b] + MARGIN, before[b] + MARGIN, written) == 0)
+            wrong(CALL_TEXT "number %d, and nothing written", CALL(op, c), number);
+    }
+    if (!made_right(op->kind, c)) wrong(CALL_TEXT "number %d, and the tag, *yes, *out, *word or the row is wrong", CALL(op, c), number);
     for (int b = KEY; b < DST; b++)
         if (memcmp(plain[b], before[b], sizeof plain[b]) != 0) wrong("%s: %s changed", op->name, buffer_names[b]);
 }
@@ -686,6 +822,30 @@ static void inverse_numbers(const struct op *op, long *calls, long *seen)
     }
 }
 
+/* A verdict, by turns over one of two bytes at yes. */
+static void judge_case(const struct op *op, const uint8_t *row, size_t len, long *calls, long *seen)
+{
+    struct call c = {.len = {len, 0, 0, 1, sizeof(uint64_t)}};
+    before[DST][MARGIN] = *calls & 1 ? 1 : 0xAA;
+    put(KEY, row, len);
+    number_case(op, &c, calls, seen);
+}
+
+/* Rows of 0 to 20 bytes and more that XOR to zero, or would without one of them, and zeros; then the rows to judge. */
+static void judge_numbers(const struct op *op, long *calls, long *seen)
+{
+    static const size_t more[] = {24, 64, 255, 256 + 8, ROOM};
+    static uint8_t row[ROOM];
+    for (size_t t = 0; t < 21 + sizeof more / sizeof *more; t++)
+        for (size_t way = 0; way < 17 && !enough(); way++) {
+            size_t len = t < 21 ? t : more[t - 21];
+            zero_sum(row, len, way);
+            if (way == 16) memset(row, 0, ROOM);
+            judge_case(op, row, len, calls, seen);
+        }
+    for (int i = 0; i < TO_JUDGE && !enough(); i++) judge_case(op, to_judge[i].row, 8, calls, seen);
+}
+
 /* The operations of one kind, or, for KINDS, all. */
 static long numbers(const struct op *ops, enum kind kind)
 {
@@ -701,6 +861,7 @@ static long numbers(const struct op *ops, enum kind kind)
         if (op->kind == ROW) row_numbers(op, &calls, seen);
         if (op->kind == PRODUCT) product_numbers(op, &calls, seen);
         if (op->kind == INVERSE) inverse_numbers(op, &calls, seen);
+        if (op->kind == JUDGE) judge_numbers(op, &calls, seen);
         for (int i = 0; op->kind <= CTR && i < NS; i++)
             for (int j = 0; j < LS; j++) {
                 size_t block = 16 * ns[i].as, keys[4], starts[4], sources[6];
@@ -726,9 +887,9 @@ static long numbers(const struct op *ops, enum kind kind)
             }
         for (int number = 0; number <= 13; number++) {
             /* a bit for each number that a kind gives: tags 0, 2, 3 and 11, mixing by a row 0, 4 and 13, the product 0, 4 and 5, the inverse
-             * 0, 4, 5 and 13 */
+             * 0, 4, 5 and 13, a verdict 0 and 4 */
             static const int given_by[KINDS] = {[BLOCK] = 0x3F, [CBC] = 0x7F, [CTR] = 0x6F, [CMAC] = 0x80D, [VERIFY] = 0x80D, [ROW] = 0x2011,
-                                                [PRODUCT] = 0x31, [INVERSE] = 0x2031};
+                                                [PRODUCT] = 0x31, [INVERSE] = 0x2031, [JUDGE] = 0x11};
             int given = given_by[op->kind] >> number & 1;
             if (given != (seen[number] > 0)) wrong("%s: the grid has %ld calls with the number %d", op->name, seen[number], number);
         }
@@ -742,11 +903,11 @@ static uint8_t *far_off[2];
 /* A call that is refused, for one length or more too long by 2^32, so right once bits are lost. */
 static void far_case(const struct op *op, const struct call *c, long *calls)
 {
-    memcpy(plain[DST], before[DST], sizeof plain[DST]);
+    for (int b = DST; b < BUFFERS; b++) memcpy(plain[b], before[b], sizeof plain[b]);
     uint8_t expected = number_of(op->kind, c), number = run(op, c);
     ++*calls;
     if (expected == 0 || number != expected) wrong(CALL_TEXT "%d, not %d", CALL(op, c), number, expected);
-    if (!made_right(op->kind, c)) wrong(CALL_TEXT "a refusal, and *yes or *out is not 0", CALL(op, c));
+    if (!made_right(op->kind, c)) wrong(CALL_TEXT "a refusal, and *yes, *out or *word is not 0", CALL(op, c));
     if (!always_sets(op->kind) && memcmp(plain[DST], before[DST], sizeof plain[DST]) != 0)
         wrong(CALL_TEXT "a refusal, and the destination touched", CALL(op, c));
 }
@@ -774,7 +935,7 @@ static void far_rows(const struct op *ops, long *calls)
             }
 }
 
-/* One length too long by 2^32, and those above. How many calls. */
+/* One length too long by 2^32, of all but products and inverses, and those above. How many calls. */
 static long far_lengths(const struct op *ops)
 {
     static const size_t l = 4;
@@ -784,10 +945,10 @@ static long far_lengths(const struct op *ops)
         if (far_off[i] == MAP_FAILED) stop("mmap");
     }
     before[DST][0] = 1; /* for *yes */
-    for (const struct op *op = ops; op < ops + MULTIPLIES; op++)
-        for (int b = 0; b < BUFFERS; b++) {
-            if (!has(op->kind, (enum buffer)b) || (is_tag(op->kind) && b == SRC) || (always_sets(op->kind) && b == DST)) continue;
-            struct call c = {.n = 1, .l = l, .len = {op->kind == ROW ? 8 : 8 * l, 16, 16, op->kind == VERIFY ? 1 : 16}};
+    for (const struct op *op = ops; op < ops + OPS; op++)
+        for (int b = 0; b < BUFFERS && op->kind != PRODUCT && op->kind != INVERSE; b++) {
+            if (!has(op->kind, (enum buffer)b) || (is_tag(op->kind) && b == SRC) || (always_sets(op->kind) && b >= DST)) continue;
+            struct call c = {.n = 1, .l = l, .len = {is_row(op->kind) ? 8 : 8 * l, 16, 16, says_yes(op->kind) ? 1 : 16, 8}};
             for (int i = 0; i < BUFFERS; i++) c.at[i] = plain[i];
             c.at[b] = far_off[b == DST];
             c.len[b] += far;
@@ -811,6 +972,8 @@ static void no_bytes(void)
     if (labyrinth_row_inverse(NULL, 0, NULL, 0) != 4 || labyrinth_row_inverse(zeros, 8, NULL, 0) != 13 ||
         labyrinth_row_inverse(published, 8, NULL, 0) != 5)
         wrong("row_inverse: NULL, a row of 0 bytes");
+    out = 0xAA;
+    if (labyrinth_row_judge(NULL, 0, &yes, &out) != 4 || yes != 0 || out != 0) wrong("row_judge: NULL, a row of 0 bytes");
     for (size_t l = 2; l <= 4; l++) {
         if (labyrinth_cmac(l, zeros, 8 * l, NULL, 0, tag, sizeof tag) != 0) wrong("cmac: NULL, 0 bytes");
         if (labyrinth_cmac_verify(l, zeros, 8 * l, NULL, 0, tag, sizeof tag, &yes) != 0 || yes != 1) wrong("cmac_verify: NULL, 0 bytes");
@@ -990,6 +1153,51 @@ static long row_laws(const struct op *ops, size_t count)
     return 6 * (long)count;
 }
 
+/* A verdict with row and yes at one of the 64 alignments. */
+static void judge_at(const struct op *op, size_t alignment, const uint8_t *row)
+{
+    enum { WIDTH = 32 };
+    static _Alignas(uint64_t) uint8_t space[BUFFERS][WIDTH], held[BUFFERS][WIDTH];
+    size_t from = 8 + alignment % 8, to = 8 + alignment / 8 % 8;
+    fill(space[0], sizeof space);
+    struct call c = {.at = {space[KEY] + from, NULL, NULL, space[DST] + to, space[WORD] + 8}, .len = {8, 0, 0, 1, sizeof(uint64_t)}};
+    memcpy(c.at[KEY], row, 8);
+    *c.at[DST] = alignment & 1 ? 1 : 0xAA;
+    memcpy(held, space, sizeof held);
+    if (run(op, &c) != 0) wrong("%s: refused", op->name);
+    if (!made_right(JUDGE, &c)) wrong("%s: *yes is %d, and it or *word is wrong", op->name, *c.at[DST]);
+    memcpy(c.at[DST], held[DST] + to, 1);
+    memcpy(c.at[WORD], held[WORD] + 8, sizeof(uint64_t));
+    if (memcmp(space, held, sizeof held) != 0) wrong("%s: bytes written that are not yes or word", op->name);
+}
+
+/* A row that is good enough since another is: that one turned and multiplied by a byte. */
+static void good_from(const uint8_t *good, uint8_t *row)
+{
+    uint8_t factor = (uint8_t)(1 + below(255));
+    size_t by = below(8);
+    for (size_t i = 0; i < 8; i++) row[i] = times(factor, good[(i + by) % 8]);
+}
+
+/* The rows to judge, which are as they are said to be, and any rows, some of them made to be good enough. How many verdicts. */
+static long verdicts(const struct op *ops, size_t count)
+{
+    uint8_t row[8];
+    for (size_t i = 0; i < TO_JUDGE && !enough(); i++) {
+        if (singular_sizes(FIELD, to_judge[i].row) != to_judge[i].sizes) wrong("row %zu to judge has other singular submatrices", i);
+        judge_at(&ops[JUDGES], i, to_judge[i].row);
+    }
+    for (size_t i = 0; i < count && !enough(); i++) {
+        fill(row, 8);
+        judge_at(&ops[JUDGES], i, row);
+        if (i % 8 != 0) continue;
+        good_from(to_judge[i / 8 % GOOD].row, row);
+        if (singular_sizes(FIELD, row) != 0) wrong("a row made to be good enough isn't");
+        judge_at(&ops[JUDGES], i / 8 * 9, row);
+    }
+    return TO_JUDGE + (long)count + ((long)count + 7) / 8;
+}
+
 /* ---- stack: a call on a painted stack of its own; what it used is from the caller's stack pointer at the call to the lowest byte that
  * lost its paint, by two paints */
 
@@ -1053,6 +1261,12 @@ static uint8_t top_inverse(const uint8_t *r, size_t rl, uint8_t *d, size_t dl)
     NOTE_TOP();
     return 0;
 }
+static uint8_t top_judge(const uint8_t *r, size_t rl, uint8_t *y, uint64_t *w)
+{
+    (void)r, (void)rl, (void)y, (void)w;
+    NOTE_TOP();
+    return 0;
+}
 static uint64_t top_mix(uint64_t word)
 {
     NOTE_TOP();
@@ -1082,7 +1296,8 @@ static size_t stack_of(const struct op *op, const struct call *c, mix_fn *mix)
 {
     static const struct op tops[KINDS] = {{"", BLOCK, 0, {.block = top_block}}, {"", CBC, 0, {.cbc = top_cbc}}, {"", CTR, 0, {.ctr = top_ctr}},
                                           {"", CMAC, 0, {.cmac = top_cmac}}, {"", VERIFY, 0, {.verify = top_verify}}, {"", ROW, 0, {.row = top_row}},
-                                          {"", PRODUCT, 0, {.product = top_product}}, {"", INVERSE, 0, {.inverse = top_inverse}}};
+                                          {"", PRODUCT, 0, {.product = top_product}}, {"", INVERSE, 0, {.inverse = top_inverse}},
+                                          {"", JUDGE, 0, {.judge = top_judge}}};
     size_t used = 0;
     there_call = c;
     there_op = op ? &tops[op->kind] : NULL;
@@ -1100,7 +1315,15 @@ static size_t stack_of(const struct op *op, const struct call *c, mix_fn *mix)
     return used;
 }
 
-/* The largest use over functions, sizes and lengths, and each function's own. */
+/* What a call used; more than the header says is wrong. */
+static size_t stack_case(const struct op *op, const struct call *c)
+{
+    size_t used = stack_of(op, c, NULL);
+    if (used > LABYRINTH_STACK) wrong(CALL_TEXT "%zu bytes of stack, and the header says %d", CALL(op, c), used, LABYRINTH_STACK);
+    return used;
+}
+
+/* The largest use over functions, sizes and lengths, and of a verdict over the rows to judge, and each function's own. */
 static size_t stack(const struct op *ops, int large, size_t *each)
 {
     static const size_t lengths[] = {0, 64, 128, 8192, 8192 + 64, 65536, 1 << 20};
@@ -1114,22 +1337,26 @@ static size_t stack(const struct op *ops, int large, size_t *each)
             for (size_t l = 2; l <= 5; l++)
                 for (size_t i = 0; i < sizeof lengths / sizeof *lengths - !large; i++) {
                     size_t len = kind == BLOCK ? 16 * n : is_row(kind) ? 8 : lengths[i];
-                    struct call c = {.n = n, .l = l, .q = 1, .at = {bytes[0], bytes[0] + 512, bytes[0], bytes[1]},
-                                     .len = {is_row(kind) && n ? 8 : 8 * n * l, 16 * n, len, kind == CMAC ? 16 : kind == VERIFY ? 1 : len}};
-                    size_t used = stack_of(&ops[o], &c, NULL);
-                    if (used > LABYRINTH_STACK)
-                        wrong("%s: n %zu, l %zu, %zu bytes: %zu bytes of stack, and the header says %d", ops[o].name, n, l, len, used,
-                              LABYRINTH_STACK);
+                    size_t room = kind == CMAC ? 16 : says_yes(kind) ? 1 : len;
+                    struct call c = {.n = n, .l = l, .q = 1, .at = {bytes[0], bytes[0] + 512, bytes[0], bytes[1], bytes[1] + 8},
+                                     .len = {is_row(kind) && n ? 8 : 8 * n * l, 16 * n, len, room, 8}};
+                    size_t used = stack_case(&ops[o], &c);
                     if (used > each[o]) each[o] = used;
                     if (kind == BLOCK || is_row(kind)) break;
                 }
+        for (int i = 0; kind == JUDGE && i < TO_JUDGE; i++) {
+            struct call c = {.at = {bytes[0], NULL, NULL, bytes[1], bytes[1] + 8}, .len = {8, 0, 0, 1, 8}};
+            memcpy(bytes[0], to_judge[i].row, 8);
+            size_t used = stack_case(&ops[o], &c);
+            if (used > each[o]) each[o] = used;
+        }
         if (each[o] > most) most = each[o];
     }
     return most;
 }
 
-/* ---- lent memory: each buffer in pages of its own between two that cannot be touched, flush against one of them; all but DST can only
- * be read while the call runs */
+/* ---- lent memory: each buffer in pages of its own between two that cannot be touched, flush against one of them; all but DST and
+ * WORD can only be read while the call runs */
 
 enum { LENT_PAGES = 5, PLACE_END = 0, PLACE_START = 1, PLACE_ANY = 2 };
 static size_t page, lent_size;
@@ -1161,14 +1388,15 @@ static size_t some_length(void)
 
 static void memory_case(const struct op *ops, enum kind kind, int place)
 {
-    static uint8_t *copy[2], *margins;
+    static uint8_t *copy[2], *margins[BUFFERS];
     static const size_t illegal[] = {0, 3, 8, ((size_t)1 << 32) + 1, SIZE_MAX};
     for (int i = 0; i < 2; i++)
         if (!copy[i]) {
             if (!(copy[i] = malloc(lent_size + 2))) stop("malloc");
             copy[i]++; /* a byte on either side, which a stub may read */
         }
-    if (!margins && !(margins = malloc(lent_size))) stop("malloc");
+    for (int b = DST; b < BUFFERS; b++)
+        if (!margins[b] && !(margins[b] = malloc(lent_size))) stop("malloc");
     const struct op *op;
     do op = &ops[below(OPS)];
     while (kind != KINDS && kind != op->kind);
@@ -1179,9 +1407,10 @@ static void memory_case(const struct op *ops, enum kind kind, int place)
     c.len[START] = has(op->kind, START) ? 16 * n : 0;
     c.len[SRC] = op->kind == BLOCK ? 16 * n : op->kind == PRODUCT ? 8 : has(op->kind, SRC) ? some_length() : 0;
     if (op->kind == CBC) c.len[SRC] -= c.len[SRC] % (16 * n);
-    c.len[DST] = op->kind == VERIFY ? 1 : is_row(op->kind) ? 8 : c.len[SRC];
+    c.len[DST] = says_yes(op->kind) ? 1 : is_row(op->kind) ? 8 : c.len[SRC];
+    c.len[WORD] = op->kind == JUDGE ? 8 : 0;
     for (int b = 0; b < BUFFERS; b++)
-        if (is_row(op->kind) && has(op->kind, (enum buffer)b) && !(always_sets(op->kind) && b == DST) && below(4) == 0)
+        if (is_row(op->kind) && has(op->kind, (enum buffer)b) && !(always_sets(op->kind) && b >= DST) && below(4) == 0)
             c.len[b] = below(3) ? below(21) : 256 + 8;
     if (tag) c.len[tag_of(op->kind)] = 8 + below(9);
     switch (below(16)) { /* now and then something does not fit */
@@ -1200,31 +1429,34 @@ static void memory_case(const struct op *ops, enum kind kind, int place)
         if (c.len[b] == 0 && place == PLACE_ANY && below(2)) c.at[b] = NULL;
     }
     if (is_row(op->kind) && c.len[KEY] && below(3) == 0) c.at[KEY][0] ^= row_sum(c.at[KEY], c.len[KEY]);
+    if (op->kind == JUDGE && c.len[KEY] == 8 && below(4) == 0) memcpy(c.at[KEY], to_judge[below(TO_JUDGE)].row, 8);
+    if (says_yes(op->kind)) *c.at[DST] = below(2) ? 1 : 0xAA;
     uint8_t expected = number_of(op->kind, &c);
     if (op->kind == VERIFY) { /* mostly the message's tag, now and then with one bit altered */
         uint8_t whole[16];
-        *c.at[DST] = below(2) ? 1 : 0xAA;
         if (c.len[KEY] >= 8 * l) cmac(l, c.at[KEY], c.at[SRC], c.len[SRC], whole);
         if (c.len[KEY] >= 8 * l && c.len[START]) memcpy(c.at[START], whole, c.len[START] < 16 ? c.len[START] : 16);
         if (c.len[START] && below(3) == 0) c.at[START][below(c.len[START])] ^= (uint8_t)(1 << below(8));
     }
     for (int b = 0; b < DST; b++)
         if (mprotect(lent[b], lent_size, PROT_READ) != 0) stop("mprotect");
-    memcpy(margins, lent[DST], lent_size);
+    for (int b = DST; b < BUFFERS; b++) memcpy(margins[b], lent[b], lent_size);
     uint8_t number = run(op, &c);
     for (int b = 0; b < DST; b++)
         if (mprotect(lent[b], lent_size, PROT_READ | PROT_WRITE) != 0) stop("mprotect");
     if (number != expected) wrong(CALL_TEXT "%d, not %d", CALL(op, &c), number, expected);
-    /* outside the destination nothing is written, and after a refusal nothing in it, unless it is *yes or *out */
-    size_t from = c.at[DST] ? (size_t)(c.at[DST] - lent[DST]) : 0, to = from + (number == 0 || always_sets(op->kind) ? c.len[DST] : 0);
-    if (memcmp(lent[DST], margins, from) != 0 || memcmp(lent[DST] + to, margins + to, lent_size - to) != 0)
-        wrong(CALL_TEXT "number %d, and bytes written that are not the destination's", CALL(op, &c), number);
-    if (!made_right(op->kind, &c)) wrong(CALL_TEXT "number %d, and the tag, *yes, *out or the row is wrong", CALL(op, &c), number);
-    if (number != 0 || op->kind == ROW) return;
+    /* outside the destination nothing is written, and after a refusal nothing in it, unless it is *yes, *out or *word */
+    for (int b = DST; b < BUFFERS; b++) {
+        size_t from = c.at[b] ? (size_t)(c.at[b] - lent[b]) : 0, to = from + (number == 0 || always_sets(op->kind) ? c.len[b] : 0);
+        if (memcmp(lent[b], margins[b], from) != 0 || memcmp(lent[b] + to, margins[b] + to, lent_size - to) != 0)
+            wrong(CALL_TEXT "number %d, and bytes written that are not the destination's", CALL(op, &c), number);
+    }
+    if (!made_right(op->kind, &c)) wrong(CALL_TEXT "number %d, and the tag, *yes, *out, *word or the row is wrong", CALL(op, &c), number);
+    if (number != 0 || op->kind == ROW || op->kind == JUDGE) return;
     /* the same in memory of any kind; and undone there it is the source, if it is no tag or row */
     struct call plainly = c;
     plainly.at[DST] = copy[0];
-    if (run(op, &plainly) != 0 || memcmp(copy[0], lent[DST] + from, c.len[DST]) != 0)
+    if (run(op, &plainly) != 0 || (c.len[DST] && memcmp(copy[0], c.at[DST], c.len[DST]) != 0))
         wrong("%s: n %zu, l %zu, %zu bytes: another answer in other memory", op->name, n, l, c.len[SRC]);
     if (op->back < 0) return;
     plainly.at[SRC] = copy[0];
@@ -1246,7 +1478,7 @@ static int memory(const struct op *ops, enum kind kind, uint64_t seed, long case
         signal(SIGSEGV, SIG_DFL);
         chance = seed;
         failures = 0;
-        for (long i = 0; i < cases; i++) memory_case(ops, kind, place);
+        for (long i = 0; i < cases && !enough(); i++) memory_case(ops, kind, place);
         fflush(stdout);
         _exit(failures != 0);
     }
@@ -1264,7 +1496,7 @@ static void notice(int as_it_should, const char *what, const char *where)
     if (!as_it_should) wrong("a stub that %s %s is not told as it should be", what, where);
 }
 
-enum { MEMORY = 1, NUMBERS = 2, FAR = 4, TAGS = 8, LAWS = 16 };
+enum { MEMORY = 1, NUMBERS = 2, FAR = 4, TAGS = 8, LAWS = 16, VERDICTS = 32 };
 
 /* Whether each of these trials finds fault with the stubs; what they find is neither counted nor printed. */
 static int all_notice(uint64_t seed, int cases, int trials)
@@ -1272,7 +1504,7 @@ static int all_notice(uint64_t seed, int cases, int trials)
     long kept = failures;
     int found = 0;
     quiet = 1;
-    for (int trial = MEMORY; trial <= LAWS; trial *= 2) {
+    for (int trial = MEMORY; trial <= VERDICTS; trial *= 2) {
         if (!(trials & trial)) continue;
         failures = 0;
         if (trial == MEMORY) failures = memory(stubs, stub.kind, seed, cases, PLACE_ANY) == -1;
@@ -1280,6 +1512,7 @@ static int all_notice(uint64_t seed, int cases, int trials)
         if (trial == FAR) far_lengths(stubs);
         if (trial == TAGS) tags(stubs, 5);
         if (trial == LAWS) row_laws(stubs, 512);
+        if (trial == VERDICTS) verdicts(stubs, 64);
         if (failures > 0) found |= trial;
     }
     failures = kept;
@@ -1290,7 +1523,7 @@ static int all_notice(uint64_t seed, int cases, int trials)
 static void try_stubs(uint64_t seed)
 {
     enum { CASES = 50, MORE = 7 * CASES };
-    enum { BOTH = MEMORY | NUMBERS, OF_TAGS = BOTH | TAGS, OF_ROWS = BOTH | LAWS };
+    enum { BOTH = MEMORY | NUMBERS, OF_TAGS = BOTH | TAGS, OF_ROWS = BOTH | LAWS, OF_VERDICTS = BOTH | VERDICTS };
     static const struct { int what; enum kind kind; const char *does; int trials; } own_stubs[] = {
         {CALLS_3, CMAC, "calls 11 3", OF_TAGS}, {CALLS_3, VERIFY, "calls 11 3", OF_TAGS}, {ALTERS, CMAC, "alters a bit of the tag", OF_TAGS},
         {SAYS_YES, VERIFY, "always says yes", OF_TAGS}, {SAYS_NO, VERIFY, "always says no", OF_TAGS},
@@ -1325,6 +1558,20 @@ static void try_stubs(uint64_t seed)
         {TURNS, INVERSE, "gives the inverse of g_(-i mod 8)", OF_ROWS}, {ONE_ROW, INVERSE, "always gives the published row's", OF_ROWS},
         {COPIES, INVERSE, "gives the row itself", OF_ROWS}, {ALIGNS, INVERSE, "reads an aligned word", LAWS},
         {OVERRUNS, INVERSE, "writes one byte past dst", NUMBERS | LAWS},
+        {GIVES_0, JUDGE, "gives 0 for another length", BOTH}, {REFUSES_13, JUDGE, "gives 13 for rows that XOR to zero", OF_VERDICTS},
+        {TAKES_8, JUDGE, "takes eight bytes of a longer row", BOTH}, {CUTS, JUDGE, "takes a row's length modulo 256", BOTH},
+        {CUTS_32, JUDGE, "takes a row's length modulo 2^32", FAR}, {KEEPS, JUDGE, "leaves yes as it was on refusal", BOTH},
+        {KEEPS_WORD, JUDGE, "leaves word as it was on refusal", BOTH}, {TOUCHES, JUDGE, "says yes on refusal", BOTH},
+        {SHOWS_ON_REFUSAL, JUDGE, "shows a word on refusal", BOTH}, {UNSET_YES, JUDGE, "leaves yes as it was", OF_VERDICTS},
+        {UNSET_WORD, JUDGE, "leaves word as it was", OF_VERDICTS}, {ALTERS, JUDGE, "alters a bit of yes", OF_VERDICTS},
+        {TURNS_ROUND, JUDGE, "turns yes and no round", OF_VERDICTS}, {SAYS_YES, JUDGE, "always says yes", OF_VERDICTS},
+        {SAYS_NO, JUDGE, "always says no", OF_VERDICTS}, {ONE_ROW, JUDGE, "always judges the published row", OF_VERDICTS},
+        {TURNS, JUDGE, "judges g_(-i mod 8)", OF_VERDICTS}, {MODULO_11D, JUDGE, "judges modulo 0x11D", OF_VERDICTS},
+        {EIGHT_WILL_DO, JUDGE, "says yes where words miss by one", OF_VERDICTS}, {SHOWS_ZERO, JUDGE, "shows the zero word", OF_VERDICTS},
+        {SHOWS_NINE, JUDGE, "shows a word with nine or more", OF_VERDICTS}, {SHOWS_MIXED, JUDGE, "shows the mixed word", OF_VERDICTS},
+        {SHOWS_REVERSED, JUDGE, "shows the word's bytes in reverse", OF_VERDICTS},
+        {SHOWS_WITH_YES, JUDGE, "shows a word with a yes", OF_VERDICTS}, {ALIGNS, JUDGE, "reads an aligned word", VERDICTS},
+        {OVERRUNS, JUDGE, "writes one byte past yes", NUMBERS | VERDICTS}, {OVERRUNS_WORD, JUDGE, "writes one byte past word", NUMBERS | VERDICTS},
     };
     size_t each[OPS + 1];
     long kept;
@@ -1344,7 +1591,7 @@ static void try_stubs(uint64_t seed)
             notice(memory(stubs, stub.kind, seed, CASES, PLACE_START) == SIGSEGV, "reads one byte before", buffer_names[b]);
             notice(memory(stubs, stub.kind, seed, CASES, PLACE_END) == 0, "reads one byte before, flush at the end,", buffer_names[b]);
             stub.what = WRITES;
-            for (int place = PLACE_END; b != DST && place <= PLACE_START; place++)
+            for (int place = PLACE_END; b < DST && place <= PLACE_START; place++)
                 notice(memory(stubs, stub.kind, seed, CASES, place) == SIGSEGV, "writes to", buffer_names[b]);
         }
     stub.kind = KINDS;
@@ -1356,6 +1603,12 @@ static void try_stubs(uint64_t seed)
         stub.kind = own_stubs[i].kind;
         stub.what = own_stubs[i].what;
         notice(all_notice(seed, MORE, own_stubs[i].trials), own_stubs[i].does, "");
+    }
+    stub.kind = JUDGE;
+    stub.what = TAKES_SIZE;
+    for (stub.size = 1; stub.size <= 8; stub.size++) {
+        const char where[] = {(char)('0' + stub.size), 0};
+        notice(all_notice(seed, MORE, NUMBERS | VERDICTS), "says yes where all singular submatrices have the size", where);
     }
     stub.kind = KINDS;
     kept = failures;
@@ -1385,14 +1638,14 @@ int main(int count, char **words)
         }
     lend();
     chance = seed;
-    enum { CALLS = 342082 };
+    enum { CALLS = 342541 };
     long calls = numbers(library, KINDS) + far_lengths(library);
     if (calls != CALLS) wrong("%ld numbers tried, not %d", calls, CALLS);
     no_bytes();
     for (size_t i = 0; i < 20; i++) runs(i);
     runs(300); /* over 8 KiB at n = 2 and 4, where the eight tables are used */
     runs(511);
-    long bits = all_tags(library), made = row_laws(library, 4096);
+    long bits = all_tags(library), made = row_laws(library, 4096), judged = verdicts(library, 100);
     size_t each[OPS + 1], most = stack(library, large, each);
     long cases = large ? 500000 : 10000;
     for (int place = PLACE_END; place <= PLACE_ANY; place++) {
@@ -1404,8 +1657,8 @@ int main(int count, char **words)
         for (int o = 0; o < OPS; o++) printf("c_interface: %s: %zu bytes of stack\n", library[o].name, each[o]);
         printf("c_interface: labyrinth_mix: %zu bytes of stack\n", each[OPS]);
     }
-    printf("c_interface: %ld numbers, %ld bits of tags altered, %ld products and inverses, %zu bytes of stack of the header's %d, "
-           "%ld calls on lent memory (seed %" PRIu64 "), %d trials of stubs: %ld wrong\n",
-           calls, bits, made, most, LABYRINTH_STACK, 3 * cases, seed, noticed, failures);
+    printf("c_interface: %ld numbers, %ld bits of tags altered, %ld products and inverses, %ld verdicts, %zu bytes of stack of the "
+           "header's %d, %ld calls on lent memory (seed %" PRIu64 "), %d trials of stubs: %ld wrong\n",
+           calls, bits, made, judged, most, LABYRINTH_STACK, 3 * cases, seed, noticed, failures);
     return failures != 0;
 }

@@ -31,7 +31,7 @@ contents() {
     echo "writable $(readelf -SW "$1" | sed 's/^ *\[ *[0-9]*\] *//' | awk '$7 ~ /W/ { print $1 }' | sort -u | xargs)"
 }
 cat >"$work/contents" <<'END'
-offers labyrinth_cbc_open labyrinth_cbc_seal labyrinth_cmac labyrinth_cmac_verify labyrinth_ctr labyrinth_decipher labyrinth_encipher labyrinth_mix labyrinth_mix_row labyrinth_row_inverse labyrinth_row_product
+offers labyrinth_cbc_open labyrinth_cbc_seal labyrinth_cmac labyrinth_cmac_verify labyrinth_ctr labyrinth_decipher labyrinth_encipher labyrinth_mix labyrinth_mix_row labyrinth_row_inverse labyrinth_row_judge labyrinth_row_product
 needs memcpy memset
 writable 
 END
@@ -162,7 +162,7 @@ for example in page convert; do
     done
 done
 
-# ---- numbers, NULL, runs, tags and rows, stack, lent memory
+# ---- numbers, NULL, runs, tags, rows and verdicts, stack, lent memory
 gcc -std=gnu11 -O2 $warnings -Wl,-z,now -I target/dist tests/c_interface.c "$archive" -o "$work/c_interface" || { echo "c_interface: not compiled"; exit 1; }
 "$work/c_interface" "$@" || wrong "tests/c_interface.c failed"
 [ $status -eq 0 ] || echo "c_interface: FAILED"

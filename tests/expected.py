@@ -360,10 +360,29 @@ def tape_steps():
 
 
 # name: (the maker of the input, the maker of the output, how many cases)
+def good_rows():
+    """Rows whose verdict is a yes: with a no the word is left open, and tests/judge.py counts it."""
+    for row in [bytes(labyrinth.G), *archivists_rows.GOOD]:
+        if archivists_rows.singular(row):
+            raise SystemExit(f"expected.py: {row.hex()} is not good enough")
+        yield row
+
+
+def judge_row_input():
+    for row in good_rows():
+        yield f"{row.hex()}\n".encode()
+
+
+def judge_row():
+    for row in good_rows():
+        yield f"{row.hex()} yes\n"
+
+
 PROGRAMS = {
     "print_tables": (None, print_tables, 256),
     "products": (None, products, 65539),
     "row_vectors": (row_vectors_input, row_vectors, 21084),
+    "judge_row": (judge_row_input, judge_row, 5),
     "vectors": (vectors_input, vectors, 946),
     "refusals": (refusals_input, refusals, 255),
     "tape_steps": (tape_steps_input, tape_steps, 130),

@@ -33,6 +33,9 @@ tests/axioms.py || fail "assumptions"
 # ---- the expected outputs are the archivists'
 tests/compare.sh || fail "the comparison with the archivists"
 
+# ---- the judge of rows, by determinants and by counting
+tests/judge.py || fail "the judge of rows"
+
 # ---- the tape program and the tools for people, on tapes made from the archivists' vectors and document 01
 tests/tapes.py || fail "the tapes"
 

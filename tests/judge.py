@@ -13,7 +13,7 @@ sys.dont_write_bytecode = True
 HERE = os.path.dirname(os.path.abspath(__file__))
 sys.path.insert(0, HERE)
 sys.path.insert(0, os.path.join(HERE, "archivists"))
-from archivists_rows import active, mixed, singular, times
+from archivists_rows import GOOD, active, mixed, singular, times
 import labyrinth
 
 PROGRAM = os.path.join(os.path.dirname(HERE), "target", "bin", "judge_row")
@@ -24,9 +24,15 @@ LIMIT = 0.050
 # rows drawn at random whose singular submatrices all have one size, k for k: the words that fall short have k bytes before and 8 - k after
 # that are not zero, and so miss by one
 MISS = {
+    1: ["8a85df00d0ecf6f6"],
+    2: ["3bb24913dcb9692f"],
+    3: ["b70e4d055a92c838"],
+    4: ["10a55a79be2ced87", "e335104593c8cf93", "e62a9a958383aca2", "480161b9551d9c82"],
+    5: ["f3e7f764d0e213bd"],
+    6: ["c2d335259b80c402"],
+    7: ["3514b16ff8cb62c3"],
+    8: ["453c187e302ae2e7", "88b63c8e6099d2a7"],
 }
-# rows drawn at random of which no submatrix is singular
-GOOD = []
 
 
 def derived():
@@ -96,89 +102,94 @@ def altered(line):
     ]
 
 
-def main():
-    groups = {
-        "published": [PUBLISHED],
-        "zero": [ZERO],
-        "01 and seven 00": [NEUTRAL],
-        "missing by one": [bytes.fromhex(row) for rows in MISS.values() for row in rows],
-        "good at random": [bytes.fromhex(row) for row in GOOD],
-        "as good as the published": list(derived()),
-        "the published but for a bit": list(near()),
-        "at random": drawn(),
-    }
-    rows = [row for group in groups.values() for row in group]
-    printed, said = run("".join(row.hex() + "\n" for row in rows).encode())
-    lines = printed.splitlines()
-    faults = []
-    if said or len(lines) != len(rows):
-        faults.append(f"{len(lines)} lines for {len(rows)} rows: {said}")
-    sizes = {row: singular(row) for row in rows}
-    for row, line in zip(rows, lines):
+GROUPS = {
+    "published": [PUBLISHED],
+    "zero": [ZERO],
+    "01 and seven 00": [NEUTRAL],
+    "missing by one": [bytes.fromhex(row) for rows in MISS.values() for row in rows],
+    "good at random": GOOD,
+    "as good as the published": list(derived()),
+    "the published but for a bit": list(near()),
+    "at random": drawn(),
+}
+ROWS = [row for group in GROUPS.values() for row in group]
+COUNT = 195
+
+
+def verdict_faults(lines, sizes):
+    """Of every row's line; the words of rows that miss by one in the one way that they can; and rows that must be good."""
+    for row, line in zip(ROWS, lines):
         wrong = fault(row, sizes[row], line)
         if wrong:
-            faults.append(f"{line}: {wrong}")
-    # what the rows were drawn for
-    for size, drawn_rows in MISS.items():
-        for row in drawn_rows:
-            if sizes[bytes.fromhex(row)] != {size}:
-                faults.append(f"{row}: not only submatrices of {size} lines are singular")
-            match = LINE.fullmatch(lines[rows.index(bytes.fromhex(row))])
-            if not match or match[2] is None or (int(match[3]), int(match[4])) != (size, 8 - size):
-                faults.append(f"{row}: not {size} before and {8 - size} after")
-    for row in groups["good at random"] + groups["as good as the published"]:
+            yield f"{line}: {wrong}"
+    for size, rows in MISS.items():
+        for row in map(bytes.fromhex, rows):
+            match = LINE.fullmatch(lines[ROWS.index(row)])
+            if sizes[row] != {size}:
+                yield f"{row.hex()}: not only submatrices of {size} lines are singular"
+            if not match or not match[2] or (int(match[3]), int(match[4])) != (size, 8 - size):
+                yield f"{row.hex()}: not {size} before and {8 - size} after"
+    for row in GROUPS["good at random"] + GROUPS["as good as the published"]:
         if sizes[row]:
-            faults.append(f"{row.hex()}: drawn as a good row, and isn't")
+            yield f"{row.hex()}: taken for a good row, and isn't"
 
-    # an altered line is noticed
-    tried = 0
-    for row, line in zip(rows, lines):
-        for other in altered(line):
-            tried += 1
-            if other == line or not fault(row, sizes[row], other):
-                faults.append(f"not noticed: {other}")
 
-    # the ways to write rows, and what is no row
-    two = f"{PUBLISHED.hex()} yes\n{PUBLISHED.hex()} yes\n"
+def unnoticed(lines, sizes):
+    """Altered lines that pass, and how many were tried."""
+    tried = [(row, line, other) for row, line in zip(ROWS, lines) for other in altered(line)]
+    return [f"not noticed: {other}" for row, line, other in tried if other == line or not fault(row, sizes[row], other)], len(tried)
+
+
+def input_faults():
+    """Rows written in other ways, and what is no row."""
+    row, line = PUBLISHED.hex(), f"{PUBLISHED.hex()} yes\n"
     spaced = " ".join(f"{x:02X}" for x in PUBLISHED)
     message = "judge_row: a row is sixteen hexadecimal digits\n"
     long = "judge_row: nothing behind 65536 bytes is read\n"
     for text, out, err in (
-        (f"{spaced}\r\n\t{PUBLISHED.hex()}", two, ""),
-        (f"{PUBLISHED.hex()}{PUBLISHED.hex()}", two, ""),
+        (f"{spaced}\r\n\t{row}", 2 * line, ""),
+        (row + row, 2 * line, ""),
         ("", "", message),
         (" \n", "", message),
-        (PUBLISHED.hex()[:15], "", message),
-        (PUBLISHED.hex() + "0", two[: len(two) // 2], message),
-        (PUBLISHED.hex() + "\ng" + PUBLISHED.hex(), two[: len(two) // 2], message),
-        *((character + PUBLISHED.hex(), "", message) for character in "/:@G`g-\0\x7f"),
-        (f"{PUBLISHED.hex():>65535}\n"[1:], two[: len(two) // 2], ""),
-        (f"{PUBLISHED.hex():>65536}", two[: len(two) // 2], long),
-        (f"{PUBLISHED.hex():>65537}", "", message + long),
+        (row[:15], "", message),
+        (row + "0", line, message),
+        (f"{row}\ng{row}", line, message),
+        *((character + row, "", message) for character in "/:@G`g-\0\x7f"),
+        (f"{row:>65535}", line, ""),
+        (f"{row:>65536}", line, long),
+        (f"{row:>65537}", "", message + long),
     ):
-        if run(text.encode()) != (out, err):
-            faults.append(f"input {text.strip()[:40]!r} of {len(text)} bytes gives {run(text.encode())}")
-
-    # the time of a yes, with the start of the program
-    best = min(timed() for _ in range(5))
-    if best > LIMIT:
-        faults.append(f"a yes took {1000 * best:.1f} ms, more than {1000 * LIMIT:.0f}")
-
-    for line in lines[:3]:
-        print(f"judge: {line}")
-    noes = sum(1 for line in lines if " no " in line)
-    print(f"judge: {len(rows)} rows, {len(rows) - noes} yes and {noes} no; {tried} altered lines; a yes in {1000 * best:.1f} ms")
-    for wrong in faults:
-        print(f"judge: FAILED: {wrong}")
-    if len(rows) != COUNT or (len(rows) - noes) != YES:
-        print(f"judge: FAILED: {len(rows)} rows with {len(rows) - noes} yes, not {COUNT} with {YES}")
-    sys.exit(1 if faults or len(rows) != COUNT or len(rows) - noes != YES else 0)
+        given = run(text.encode())
+        if given != (out, err):
+            yield f"input {text.strip()[:40]!r} of {len(text)} bytes gives {given}"
 
 
 def timed():
+    """Seconds for a yes, with the program's start."""
     began = time.perf_counter()
     run(PUBLISHED.hex().encode())
     return time.perf_counter() - began
+
+
+def main():
+    printed, said = run("".join(row.hex() + "\n" for row in ROWS).encode())
+    lines = printed.splitlines()
+    if said or len(lines) != len(ROWS) or len(ROWS) != COUNT:
+        sys.exit(f"judge: FAILED: {len(lines)} lines for {len(ROWS)} rows, not {COUNT}: {said}")
+    sizes = {row: singular(row) for row in ROWS}
+    faults, tried = [*verdict_faults(lines, sizes), *input_faults()], 0
+    if not faults:
+        faults, tried = unnoticed(lines, sizes)
+    best = min(timed() for _ in range(5))
+    if best > LIMIT:
+        faults.append(f"a yes took {1000 * best:.1f} ms, more than {1000 * LIMIT:.0f}")
+    for line in lines[:3]:
+        print(f"judge: {line}")
+    good = sum(1 for row in ROWS if not sizes[row])
+    print(f"judge: {COUNT} rows, {good} good enough by determinants; {tried} altered lines; a yes in {1000 * best:.1f} ms")
+    for wrong in faults:
+        print(f"judge: FAILED: {wrong}")
+    sys.exit(1 if faults else 0)
 
 
 main()

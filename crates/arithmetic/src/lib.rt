@@ -94,15 +94,14 @@ pub fn power(a: u8, n: u32) -> u8
 // ---- every byte of a word at once
 
 // Every byte of a word times x.
-fn times_x_each(w: u64) -> u64
+pub fn times_x_each(w: u64) -> u64
     ensures { λ r. ⌜ r ≡ eachByte timesX w ⌝ }
 {
     let h = (w >> 7) & 0x0101010101010101;
     ((w & 0x7F7F7F7F7F7F7F7F) << 1) ^ h ^ (h << 2) ^ (h << 3) ^ (h << 5)
 }
 
-// Every byte of a word multiplied by c. Eight turns always: mixing by a row multiplies one word by eight coefficients, and of loops with the
-// same end the compiler makes one that has the powers of x once.
+// Every byte of a word multiplied by c. Eight turns always, which take no branch that depends on c.
 pub fn times_each(w: u64, c: u8) -> u64
     ensures { λ r. ⌜ r ≡ scale c w ⌝ }
 {

@@ -1,14 +1,17 @@
 -- Laws of `scale`, every byte of a word multiplied by one byte: its bytes, and its sum over the multiplier's bits.
 -- Assumes nothing.
 use mathlib.Core.Path.{_≡_, sym, ap, _∙_}
-use Prim.Native.Nat.{ℕ, _+_, _*_, _/_, _%_, _^_, _<_}
+use mathlib.Core.List.{List}
+use Prim.Native.Nat.{ℕ, zero, suc, _+_, _*_, _/_, _%_, _^_, _<_}
 use native.Mathlib.Numerals.{add-one}
 use native.Mathlib.Omega.{arith}
-use Rattle.field.specs.Lists.{xorSum}
+use lib.ListN.{getD}
+use Rattle.field.specs.Lists.{tabulate, xorSum, iterate}
 use Rattle.field.specs.Words.{byte, eachByte}
 use Rattle.field.specs.Field.{timesX, shift, mul}
 use Rattle.field.specs.Mixing.{scale}
 use Rattle.field.proofs.Xor.{parity, digit-into}
+use Rattle.field.proofs.Lists.{getD-tabulate}
 use Rattle.field.proofs.Field.{shift-lt, mul-lt, digit-lt}
 use Rattle.field.proofs.Sums.{xorSum-cong, xorSum-lt, into}
 use Rattle.field.proofs.Words.{byte-xor, word-ext, each-lt, byte-each, each-each}
@@ -53,3 +56,17 @@ scale-bits c w =
   where
     part : ℕ → ℕ
     part k = c / 2 ^ k % 2 * shiftEach w k
+
+-- by the word's powers, made one from the other
+shiftEach-iterate : (w : ℕ) → w < 2 ^ 64 → (k : ℕ) → iterate k (eachByte timesX) w ≡ shiftEach w k
+unfolding iterate
+shiftEach-iterate w l zero = shiftEach-zero w l
+shiftEach-iterate w l (suc k) = shiftEach-next w k (ap (eachByte timesX) (shiftEach-iterate w l k)) ∙ ap (shiftEach w) (add-one k)
+
+pub scale-powers : (c w : ℕ) → w < 2 ^ 64 → (p : List ℕ) → p ≡ tabulate 8 (λ k. iterate k (eachByte timesX) w)
+    → xorSum 8 (λ k. c / 2 ^ k % 2 * getD p k 0) ≡ scale c w
+scale-powers c w l p e =
+    xorSum-cong 8 (λ k. c / 2 ^ k % 2 * getD p k 0) (λ k. c / 2 ^ k % 2 * shiftEach w k)
+    (λ k m. ap (λ (x : ℕ). c / 2 ^ k % 2 * x)
+    (ap (λ (p : List ℕ). getD p k 0) e ∙ getD-tabulate 8 (λ k. iterate k (eachByte timesX) w) 0 k m ∙ shiftEach-iterate w l k))
+    ∙ sym (scale-bits c w)

@@ -12,7 +12,7 @@ use Rattle.modes.specs.Refusals.{cbcRefusal, ctrRefusal, cmacRefusal}
 use Rattle.cmac.specs.declared.Verified.{Verified}
 use Rattle.promise.specs.Demands.{Steps, WorksTape, Expands, Enciphers, Deciphers, SealsCbc, OpensCbc, RunsCtr, ComesBack}
 use Rattle.rows.proofs.Rows.{published-mixed}
-use Rattle.promise.specs.Requests.{MakesTag, VerifiesTag, GetsYes, Multiplies, MixesBy, MixesAsBefore, MakesTable, MakesTheTableLent, LooksUp, FindsMixed, MultipliesRows, Inverts, ConvertsWord}
+use Rattle.promise.specs.Requests.{MakesTag, VerifiesTag, GetsYes, Multiplies, MixesBy, MixesAsBefore, MakesTable, MakesTheTableLent, LooksUp, FindsMixed, MultipliesRows, Inverts, ConvertsWord, Judges}
 use Rattle.promise.proofs.Requests.{looks-up, published-table}
 use Rattle.tape.proofs.step as tape-step
 use Rattle.tape_run.proofs.run as tape-run
@@ -34,6 +34,7 @@ use Rattle.rows.proofs.mix as mix-word
 use Rattle.rows.proofs.make_table as make-table
 use Rattle.rows.proofs.product as product-of-rows
 use Rattle.rows.proofs.inverse as inverse-of-row
+use Rattle.judge.proofs.judge as judge-of-rows
 use Rattle.mixing.proofs.look_up as look-up
 use Rattle.tables.proofs.merged_table as merged-table
 use Rattle.arithmetic.proofs.times as times
@@ -162,6 +163,12 @@ module _ (κs : Lfts 0) where
   pub converts-word : (a : _) (z : _) (e : _) → word-converted.Reads.Learnt κs a z e → ConvertsWord (a .0) (a .1 .0) (a .1 .1 .0) z
   converts-word a z e h = h
 
+-- ---- document 02, Job 6
+
+module _ (κs : Lfts 0) where
+  pub judges : (a : _) (z : _) (e : _) → judge-of-rows.Reads.Learnt κs a z e → Judges (a .0) z
+  judges a z e h = h
+
 -- ---- every function named here meets its contract
 
 module _ {M : Type 1} where
@@ -221,6 +228,9 @@ module _ {M : Type 1} where
 
   pub inverse-of-row-met : inverse-of-row.Statement.statement M
   inverse-of-row-met = inverse-of-row.Met.met
+
+  pub judge-of-rows-met : judge-of-rows.Statement.statement M
+  judge-of-rows-met = judge-of-rows.Met.met
 
   pub word-converted-met : word-converted.Statement.statement M
   word-converted-met = word-converted.Met.met

@@ -34,6 +34,7 @@ use Rattle.rows.specs.Inverse.{constantRow, neutral, inverseRow, inverted}
 use Rattle.rows.proofs.Rows.{row-zero, row-iff, table-zero, table-five, table-iff, mixed-done, mixed-refused, row-accepted, lookup-made}
 use Rattle.rows.proofs.Ring.{product-comm, product-assoc, mix-order, mix-neutral, product-neutral}
 use Rattle.rows.proofs.Inverses.{inverse-row, product-inverse, only-inverse, no-inverse, mix-back, mix-forth, neutral-accepted, inverse-accepted, product-accepted, product-left, product-right, inverted-done, inverted-refused, published-inverse}
+use Rattle.judge.proofs.Verdicts.{one-verdict, zero-row-short, neutral-short, good-accepted, nine-at-most}
 use Rattle.modes.specs.Cmac.{K1, K2, tag}
 use Rattle.modes.specs.Refusals.{cmacRefusal, firstOf}
 use Rattle.labyrinth.proofs.Agree.{E-used}
@@ -52,7 +53,7 @@ use Rattle.tape.proofs.Accepted.{Closed}
 use Rattle.tape_run.specs.Runs.{steps, tapeSteps, joined, tapeAnswers, lastRest, Ran}
 use Rattle.tape_run.proofs.Runs.{run-whole}
 use Rattle.tape_run.proofs.Endings.{last-eight, eight-trails, eight-once, copy-whole, copy-short}
-use Rattle.promise.specs.Requests.{MasksDoubled, OneRemainder, YesExactly, TagsOfUsedWords, TagNumber, TagNumbers, EmptyRest, EndedState, FiveFirst, ExampleKept, EmptyTape, UnknownCommand, EightTells, OneEight, NothingLost, ShortTold, ShortCoefficients, EndsAfterHighestOne, TurnsNamed, MakesTable, MakesTheTableLent, by, EightTimesByRow, PublishedPower, XorByRow, RotatedByRow, LooksUp, RowNumber, RowNumbers, TableNumber, TableNumbers, OneAfterAnother, OneAnswerAfterAnother, AcceptedTogether, OrderFree, InverseNumber, InverseNumbers, PublishedInverse, GroupingFree, ChangesNoWord, ChangesNoRow, WordBack, Converts}
+use Rattle.promise.specs.Requests.{MasksDoubled, OneRemainder, YesExactly, TagsOfUsedWords, TagNumber, TagNumbers, EmptyRest, EndedState, FiveFirst, ExampleKept, EmptyTape, UnknownCommand, EightTells, OneEight, NothingLost, ShortTold, ShortCoefficients, EndsAfterHighestOne, TurnsNamed, MakesTable, MakesTheTableLent, by, EightTimesByRow, PublishedPower, XorByRow, RotatedByRow, LooksUp, RowNumber, RowNumbers, TableNumber, TableNumbers, OneAfterAnother, OneAnswerAfterAnother, AcceptedTogether, OrderFree, InverseNumber, InverseNumbers, PublishedInverse, GroupingFree, ChangesNoWord, ChangesNoRow, WordBack, Converts, OneVerdict, ZeroRowShort, NeutralShort, GoodAccepted, NineAtMost}
 
 -- ---- Job 1
 
@@ -325,3 +326,20 @@ converts g h r s e w l =
     let one : by h (by k (by g w)) ≡ by h w = ap (by h) (word-back g r e w l .0) in
     let at-once : mixed (product k h) (by g w) (rowRefusal (product k h)) ≡ mixed h w (firstOf (rowRefusal g) (rowRefusal h)) = converted g h w r s l in
     (one, ap (λ (m : Mixed). m .word) at-once ∙ ap (λ (n : ℕ). mixed h w n .word) (sym (first-passed (rowRefusal g) (rowRefusal h) e)))
+
+-- ---- Job 6
+
+pub one-verdict-only : OneVerdict
+one-verdict-only = one-verdict
+
+pub the-zero-row-short : ZeroRowShort
+the-zero-row-short = zero-row-short
+
+pub the-neutral-row-short : NeutralShort
+the-neutral-row-short = neutral-short
+
+pub good-row-accepted : GoodAccepted
+good-row-accepted g r h = row-iff g .1 (good-accepted g r h)
+
+pub no-more-than-nine : NineAtMost
+no-more-than-nine = nine-at-most

@@ -25,6 +25,8 @@ use Rattle.rows.specs.declared.Mixed.{Mixed}
 use Rattle.rows.specs.declared.Inverted.{Inverted}
 use Rattle.rows.specs.Rows.{rowRefusal, tableRefusal, mixed}
 use Rattle.rows.specs.Inverse.{Row, neutral, inverseRow, inverted}
+use Rattle.judge.specs.declared.Verdict.{Verdict}
+use Rattle.judge.specs.Judge.{together, GoodEnough, FallsShort}
 use Rattle.modes.specs.Strings.{number}
 use Rattle.modes.specs.Cmac.{K1, K2, tag}
 use Rattle.modes.specs.Gf128.{Remainder}
@@ -289,3 +291,32 @@ Converts =
 -- and of the operations themselves, called one after another for a word mixed by g: it is mixed by h then, or the first refusal is answered
 abbrev pub ConvertsWord : List ℕ → List ℕ → ℕ → Mixed → Type 0
 ConvertsWord g h w answer = answer ≡ mixed h w (firstOf (rowRefusal g) (rowRefusal h))
+
+-- ---- Job 6: is a row good enough?
+
+-- "The article wants nine active bytes at least: for every word that isn't zero, its non-zero bytes before and after mixing together number nine or
+-- more. Mixing here is the matrix product, for rows that Job 4 refuses too." `GoodEnough`, of any row; `FallsShort`, of a word that hasn't nine.
+-- "Build a judge for any eight coefficients. It says yes precisely when all words meet this, and with a no it shows one word that falls short (any
+-- will do; with a yes, the zero word)."
+abbrev pub Judges : List ℕ → Verdict → Type 0
+Judges g answer =
+    ((answer .yes ≡ true) ↔ GoodEnough g) × (answer .yes ≡ true → answer .word ≡ 0) × (answer .yes ≡ false → FallsShort g (answer .word))
+
+-- so two verdicts on one row are the same, but for the word that a no shows
+abbrev pub OneVerdict : Type 0
+OneVerdict = (g : List ℕ) (u v : Verdict) → Judges g u → Judges g v → (u .yes ≡ v .yes) × (u .yes ≡ true → u .word ≡ v .word)
+
+-- "It takes every row, the zero row too." Here and by the row that changes nothing the word 1 falls short
+abbrev pub ZeroRowShort : Type 0
+ZeroRowShort = FallsShort (replicate 8 0x00) 1
+
+abbrev pub NeutralShort : Type 0
+NeutralShort = FallsShort neutral 1
+
+-- a row that is good enough is one that mixing accepts; the converse doesn't hold, as the neutral row shows
+abbrev pub GoodAccepted : Type 0
+GoodAccepted = (g : List ℕ) → Row g → GoodEnough g → rowRefusal g ≡ 0
+
+-- and no row does better than nine
+abbrev pub NineAtMost : Type 0
+NineAtMost = (g : List ℕ) → together g 1 ≤ 9

@@ -1,6 +1,6 @@
 //! The block cipher Labyrinth, and over it CBC and CTR of NIST SP 800-38A and the tag of SP 800-38B (CMAC): a safe wrapper of the library in
 //! Rattle that is proved against the article and these standards. Each function that takes a key expands it, does one operation and keeps
-//! nothing; two mix a word, and two make a row.
+//! nothing; two mix a word, two make a row, and one judges a row.
 //!
 //! What is proved is the library behind the C interface; this wrapper is not. It hands over what it is given, unchecked, and returns what
 //! the library answered. Safe Rust keeps to what the proofs ask of a caller: slices are valid, and a destination overlaps nothing.
@@ -107,11 +107,12 @@ extern "C" {
     fn labyrinth_mix_row(row: *const u8, row_len: usize, word: u64, out: *mut u64) -> u8;
     fn labyrinth_row_product(g: *const u8, g_len: usize, h: *const u8, h_len: usize, dst: *mut u8, dst_len: usize) -> u8;
     fn labyrinth_row_inverse(row: *const u8, row_len: usize, dst: *mut u8, dst_len: usize) -> u8;
+    fn labyrinth_row_judge(row: *const u8, row_len: usize, yes: *mut u8, word: *mut u64) -> u8;
 }
 
 /// Why the library refused: the number of documents 01 and 02. The destination, or the tag to be made, then holds what it held before.
 /// (Document 02's 12, a working key of another n than 1 for a tag, can't come about: a [`TagKey`] has no n. Nor can the library's 4 and 5
-/// for rows that aren't eight bytes: [`mix_row`], [`row_product`] and [`row_inverse`] take and give no others.)
+/// for rows that aren't eight bytes: [`mix_row`], [`row_product`], [`row_inverse`] and [`row_judge`] take and give no others.)
 #[derive(Clone, Copy, Debug, PartialEq, Eq, Hash)]
 #[non_exhaustive]
 pub enum Error {
@@ -234,8 +235,8 @@ impl fmt::Debug for TagKey<'_> {
 type Block = unsafe extern "C" fn(usize, usize, *const u8, usize, *const u8, usize, *mut u8, usize) -> u8;
 type Cbc = unsafe extern "C" fn(usize, usize, *const u8, usize, *const u8, usize, *const u8, usize, *mut u8, usize) -> u8;
 
-// Of every call below: a slice's pointer is valid for its length, and dst, or the tag to be made, borrowed mutably, and yes, out and a row to
-// be made, variables, overlap nothing else. That is all that the library asks of its caller; lengths and sizes may be anything.
+// Of every call below: a slice's pointer is valid for its length, and dst, or the tag to be made, borrowed mutably, and yes, out, word and a
+// row to be made, variables, overlap nothing else. That is all that the library asks of its caller; lengths and sizes may be anything.
 impl Key<'_> {
     fn block(&self, map: Block, src: &[u8], dst: &mut [u8]) -> Result<(), Error> {
         let Key { n, l, bytes: key } = *self;
@@ -360,6 +361,44 @@ pub fn row_inverse(row: &[u8; 8]) -> Result<[u8; 8], Error> {
     let mut dst = [0; 8];
     answer(unsafe { labyrinth_row_inverse(row.as_ptr(), row.len(), dst.as_mut_ptr(), dst.len()) })?;
     Ok(dst)
+}
+
+/// What [`row_judge`] says of a row.
+#[derive(Clone, Copy, Debug, PartialEq, Eq, Hash)]
+#[must_use]
+pub enum Verdict {
+    /// Every word that isn't zero has nine or more bytes that aren't zero, counted before and after mixing by the row together.
+    GoodEnough,
+    /// This word isn't zero and has eight or fewer. Which such word is shown is left open.
+    FallsShort(u64),
+}
+
+/// Judges a row, any row, also one that [`mix_row`] refuses: is it good enough, as the published one is? Takes about 5 ms for a yes, less for
+/// a no.
+///
+/// Never refused: the row's length is right by type. Were the library to refuse, that is a panic, as in [`row_product`].
+///
+/// ```
+/// use labyrinth::{mix_row, row_judge, Error, Verdict};
+///
+/// assert_eq!(row_judge(&[0x01, 0x01, 0x03, 0x0F, 0x0A, 0x1F, 0x0F, 0x0C]), Verdict::GoodEnough);
+/// let active = |word: u64| word.to_le_bytes().iter().filter(|&&b| b != 0).count();
+/// let row = [0x02, 0x07, 0x00, 0x8E, 0x35, 0x11, 0xC4, 0x5B];
+/// match row_judge(&row) {
+///     Verdict::GoodEnough => panic!("a row with a coefficient 00"),
+///     Verdict::FallsShort(word) => assert!(word != 0 && active(word) + active(mix_row(&row, word)?) < 9),
+/// }
+/// # Ok::<(), Error>(())
+/// ```
+pub fn row_judge(row: &[u8; 8]) -> Verdict {
+    let (mut yes, mut word) = (0, 0);
+    let number = unsafe { labyrinth_row_judge(row.as_ptr(), row.len(), &mut yes, &mut word) };
+    assert_eq!(number, 0, "the library refused to judge a row of eight bytes");
+    if yes == 1 {
+        Verdict::GoodEnough
+    } else {
+        Verdict::FallsShort(word)
+    }
 }
 
 #[cfg(test)]
@@ -555,6 +594,76 @@ mod tests {
                 assert_eq!(mix_row(&inverse, mixed), Ok(word));
                 assert_eq!(mix_row(&converting, mixed), Ok(mix(word)));
             }
+        }
+    }
+
+    // The product of two bytes modulo 12D, bit by bit.
+    fn times(a: u8, b: u8) -> u8 {
+        (0..8).rev().fold(0, |sum, k| (sum << 1) ^ ((sum >> 7) * 0x2D) ^ ((b >> k & 1) * a))
+    }
+
+    // The bytes that aren't zero of a word that isn't zero, before and after mixing, which is not the library's.
+    fn counted(row: &[u8; 8], word: u64) -> [usize; 2] {
+        assert_ne!(word, 0);
+        let (before, mut after) = (word.to_le_bytes(), [0; 8]);
+        for i in 0..8 {
+            for j in 0..8 {
+                after[i] ^= times(row[(8 + i - j) % 8], before[j]);
+            }
+        }
+        [before, after].map(|bytes| bytes.iter().filter(|&&b| b != 0).count())
+    }
+
+    // What a word shown with a no has; of a row that is good enough nothing.
+    fn shown(row: &[u8; 8]) -> Option<[usize; 2]> {
+        match row_judge(row) {
+            Verdict::GoodEnough => None,
+            Verdict::FallsShort(word) => Some(counted(row, word)),
+        }
+    }
+
+    #[test]
+    fn rows_that_are_good_enough() {
+        let others = [0x04BE10029810C6DB_u64, 0x26E78B0DD8531F6D, 0x62A0172EB004E3B8, 0xF7693AE1A15DDD4B].map(u64::to_be_bytes);
+        for row in others.into_iter().chain([PUBLISHED]) {
+            assert_eq!(row_judge(&row), Verdict::GoodEnough);
+        }
+        // turned, and times a byte, a row has the same counts
+        for k in 0..8 {
+            let mut row = PUBLISHED.map(|b| times(b, 0x53 + k));
+            row.rotate_right(k.into());
+            assert_eq!(row_judge(&row), Verdict::GoodEnough);
+        }
+    }
+
+    #[test]
+    fn rows_that_fall_short() {
+        let fewer = |row: &[u8; 8]| shown(row).is_some_and(|[before, after]| before + after < 9);
+        assert!(fewer(&NEUTRAL));
+        // rows that XOR to zero, the zero row first: the word of eight bytes 01 mixes to zero
+        let rows = rows();
+        for row in &rows[..rows.len() / 2] {
+            assert!(fewer(row), "{row:02X?}");
+        }
+        // a coefficient 00: a word of one byte keeps a zero byte
+        for k in 0..8 {
+            let mut row = PUBLISHED;
+            row[k] = 0;
+            assert!(fewer(&row), "{row:02X?}");
+        }
+        // of these rows only submatrices with k lines are singular: all words that fall short have k bytes before and 8 - k after
+        for (k, row) in [
+            (1, 0x8A85DF00D0ECF6F6_u64),
+            (2, 0x3BB24913DCB9692F),
+            (3, 0xB70E4D055A92C838),
+            (4, 0x10A55A79BE2CED87),
+            (4, 0xE335104593C8CF93),
+            (5, 0xF3E7F764D0E213BD),
+            (6, 0xC2D335259B80C402),
+            (7, 0x3514B16FF8CB62C3),
+            (8, 0x453C187E302AE2E7),
+        ] {
+            assert_eq!(shown(&row.to_be_bytes()), Some([k, 8 - k]), "{row:016X}");
         }
     }
 

@@ -8,6 +8,7 @@ use Rattle.field.specs.Lists.{xorSum}
 use Rattle.field.specs.Words.{rotl}
 use Rattle.field.specs.Mixing.{mix, scale}
 use Rattle.field.proofs.Sums.{xorSum-next}
+use Rattle.field.proofs.Scale.{scale-powers}
 use Rattle.field.proofs.Mixing.{mix-coefficients}
 use Rattle.field.proofs.Forms.{xorSum-end}
 use borrow.Author.Needs.{needs}
@@ -15,20 +16,23 @@ use Rattle.mixing.proofs.mix_row.Statement.{statement}
 use Rattle.mixing.proofs.mix_row.Tie as tie
 
 abbrev Inv-loop : tie.InvT-loop
-Inv-loop w g r₀ k₀ r k = (k ≤ 8) × (r ≡ xorSum k (λ j. rotl (scale (getD g j 0) w) (8 * j)))
+Inv-loop w g p r₀ k₀ r k = (k ≤ 8) × (r ≡ xorSum k (λ j. rotl (scale (getD g j 0) w) (8 * j)))
 
 abbrev μ-loop : tie.MeasureT-loop
-μ-loop w g r₀ k₀ r k = 8 - k
+μ-loop w g p r₀ k₀ r k = 8 - k
+
+powers-requires : tie.Need-powers-requires Inv-loop μ-loop
+powers-requires c κs = search needs
 
 loop-holds : tie.Need-loop-holds Inv-loop μ-loop
 unfolding xorSum
 loop-holds c = (omega arith, refl)
 
-array-read-times-each : tie.Need-array-read-times-each Inv-loop μ-loop
-array-read-times-each c = search needs
+array-read-at-bits : tie.Need-array-read-at-bits Inv-loop μ-loop
+array-read-at-bits c = search needs
 
-times-each-requires : tie.Need-times-each-requires Inv-loop μ-loop
-times-each-requires c κs = search needs
+at-bits-requires : tie.Need-at-bits-requires Inv-loop μ-loop
+at-bits-requires c κs = search needs
 
 mul-rotate-left : tie.Need-mul-rotate-left Inv-loop μ-loop
 mul-rotate-left c = search needs
@@ -45,9 +49,11 @@ loop-less c = search needs
 loop-again : tie.Need-loop-again Inv-loop μ-loop
 loop-again c =
     let l = c .before .before .before .loop in
-    let a = c .before .before .before .before .args in
-    let product : c .before .times-each .result ≡ scale (getD (a .t1) (l .k) 0) (a .w) = c .before .times-each .ensures in
-    (omega arith, xorSum-next (l .k) _ (l .inv .1) (c .rotate-left .ensures ∙ ap₂ rotl product (omega arith)))
+    let w = c .before .before .before .before .powers in
+    let a = c .before .before .before .before .before .args in
+    let made : c .before .at-bits .result ≡ scale (getD (a .t1) (l .k) 0) (a .w) =
+    c .before .at-bits .ensures ∙ scale-powers (getD (a .t1) (l .k) 0) (a .w) (omega arith) (w .result) (w .ensures) in
+    (omega arith, xorSum-next (l .k) _ (l .inv .1) (c .rotate-left .ensures ∙ ap₂ rotl made (omega arith)))
 
 returns : tie.Need-returns Inv-loop μ-loop
 returns c = let l = c .before .loop in let e : l .k ≡ 8 = omega arith in xorSum-end _ e (l .inv .1) ∙ sym (mix-coefficients _ _)
@@ -58,9 +64,10 @@ mix-row-spec =
     (tie.spec
     Inv-loop
     μ-loop
+    powers-requires
     loop-holds
-    array-read-times-each
-    times-each-requires
+    array-read-at-bits
+    at-bits-requires
     mul-rotate-left
     rotate-left-requires
     add-k
