@@ -3,13 +3,13 @@
 use mathlib.Core.Path.{_≡_, refl, sym, ap, ap₂, _∙_}
 use mathlib.Core.Bool.{Bool, true, false}
 use mathlib.Core.List.{List, []}
-use Prim.Native.Nat.{ℕ, _+_, _-_, _*_, _%_, _^_, _≤_, _<_}
+use Prim.Native.Nat.{ℕ, _-_, _*_, _%_, _^_, _≤_, _<_}
 use native.Mathlib.Omega.{arith}
 use borrow.Author.Tests.{eq-eqb, ne-eqb, lt-ltb, le-ltb}
 use lib.Dec.{eqb}
 use lib.ListN.{getD, replicate, getD-replicate}
 use lib.Bits.{bitXor, xor-self, xor-zero-l, xor-zero-r}
-use Rattle.field.specs.Lists.{tabulate, xorSum, pick, when}
+use Rattle.field.specs.Lists.{tabulate, xorSum, pick}
 use Rattle.field.specs.Words.{byte, join}
 use Rattle.field.specs.Field.{mul, power}
 use Rattle.field.specs.Mixing.{dot, mixBy, scale}
@@ -17,7 +17,7 @@ use Rattle.field.proofs.Xor.{Additive, additive-zero}
 use Rattle.field.proofs.Tests.{all, at, agree}
 use Rattle.field.proofs.Lists.{getD-tabulate, tabulate-cong}
 use Rattle.field.proofs.Sums.{xorSum-cong, into, xorSum-zero, xorSum-xor, xorSum-only}
-use Rattle.field.proofs.Words.{byte-lt, byte-xor, byte-join, join-cong}
+use Rattle.field.proofs.Words.{byte-xor, byte-join, join-cong}
 use Rattle.field.proofs.Field.{mul-xor-l, mul-xor-r, mul-comm, mul-assoc, mul-one, one-mul, zero-mul, mul-zero}
 use Rattle.field.proofs.Power.{power-255}
 use Rattle.field.proofs.Scale.{byte-scale}

@@ -1,4 +1,5 @@
--- What the judge's steps do. No part of the request: the code's way to `Judged`. A matrix gives a word if that word is its product with some word.
+-- What the judge's steps do. No part of the request: the code's way to `Judged`. A matrix gives a word that is its product with some word, the
+-- word of the unknowns, and keeps a word that is its product with that word itself.
 -- Assumes nothing.
 use Prim.Native.Nat.{ℕ, _+_, _-_, _^_, _≤_, _<_}
 use mathlib.Core.Path.{_≡_}
@@ -16,7 +17,7 @@ use Rattle.judge.specs.Judge.{nonzero}
 unfoldable pub combined : List ℕ → ℕ → List ℕ → List ℕ
 combined x c y = tabulate 8 (λ j. bitXor (getD x j 0) (mul (getD y j 0) c))
 
--- every row of a matrix with the row y added so often that a y with 1 at p takes its element p out
+-- to every row of a matrix its element p times the row y is added
 unfoldable pub cleared : List (List ℕ) → ℕ → List ℕ → List (List ℕ)
 cleared a p y = tabulate 8 (λ i. combined (getD a i []) (getD (getD a i []) p 0) y)
 

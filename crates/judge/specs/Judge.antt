@@ -1,6 +1,6 @@
 -- Is a row good enough? (document 02, Job 6) "for every word that isn't zero, its non-zero bytes before and after mixing together number nine or
--- more. Mixing here is the matrix product, for rows that Job 4 refuses too." So mixing is the article's `mix`, of any row. Where the matrix is eight
--- rows of eight bytes no row can have more than nine: such a matrix is called MDS, and nine its branch number.
+-- more. Mixing here is the matrix product, for rows that Job 4 refuses too." So mixing is the article's `mix`, by any row. The least of these numbers
+-- is commonly called the branch number of the mixing; it is nine at most, and where it is nine the matrix is called MDS.
 -- Assumes nothing.
 use Prim.Native.Nat.{ℕ, zero, suc, _+_, _^_, _≤_, _<_}
 use mathlib.Core.Path.{_≡_}

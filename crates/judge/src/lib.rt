@@ -1,12 +1,9 @@
-// Is a row good enough? (document 02, Job 6) A word that falls short has eight zeros or more among its eight bytes and the eight of its mixed
-// word. So eight of the sixteen are asked to be zero, every choice of eight in turn. The matrix a gives the words that are left, as its products
-// with all words: at first every word; each byte that is asked to be zero is a row, out of which one unknown is worked and put in everywhere.
-// The row is good enough exactly when no choice leaves a word but zero.
+// Is a row good enough? (document 02, Job 6) A word that falls short has eight zeros or more among its eight bytes and the eight of the word
+// mixed. So eight of the sixteen are asked to be zero, every choice of eight in turn, and the row is good enough exactly when no choice leaves
+// a word but zero. The words that are left are the products of a matrix a with all words, the eight unknowns: at first every word. A byte that
+// is asked to be zero is an equation in the unknowns; one of them is worked out of it and put in everywhere.
 ghost use mathlib.Core.Path.{_≡_};
-ghost use mathlib.Core.List.{[]};
 ghost use Prim.Native.Nat.{ℕ, _≤_, _<_};
-ghost use lib.ListN.{getD};
-ghost use Rattle.field.specs.Lists.{tabulate};
 ghost use Rattle.field.specs.Mixing.{dot, mixBy};
 ghost use Rattle.judge.specs.Judge.{activeBytes, Judged};
 ghost use Rattle.judge.specs.Elimination.{combined, cleared, Pivot, Restricted, sixteen, Left, Found};
@@ -36,7 +33,7 @@ fn pivot(y: [u8; 8]) -> usize
 
 // ---- the elimination
 
-// Every row of a, with the row y added so often that its element p goes out; y has a 1 there.
+// To every row of a its element p times the row y is added; y has a 1 there, so that the unknown p goes out.
 fn clear_column(a: [[u8; 8]; 8], p: usize, y: [u8; 8]) -> [[u8; 8]; 8]
     requires { ⌜ p < 8 ⌝ }
     ensures { λ r. ⌜ r ≡ cleared a p y ⌝ }
@@ -51,7 +48,7 @@ fn clear_column(a: [[u8; 8]; 8], p: usize, y: [u8; 8]) -> [[u8; 8]; 8]
     m
 }
 
-// Of the words that a gives, those for which the row y gives 0.
+// Of the words that a gives, those at whose unknowns the row y gives 0.
 fn restrict(a: [[u8; 8]; 8], y: [u8; 8]) -> [[u8; 8]; 8]
     ensures { λ r. ⌜ Restricted a y r ⌝ }
 {
@@ -77,7 +74,7 @@ fn row_times(x: [u8; 8], a: [[u8; 8]; 8]) -> [u8; 8]
     r
 }
 
-// The row that gives byte z of the sixteen, of the words that a gives and of these mixed by m.
+// The row that gives byte z of the sixteen: of the words that a gives, then of these mixed by m.
 fn byte_row(m: [[u8; 8]; 8], a: [[u8; 8]; 8], z: usize) -> [u8; 8]
     requires { ⌜ z < 16 ⌝ }
     ensures { λ r. ⌜ ((w : ℕ) → dot r w ≡ sixteen m (mixBy a w) z) ⌝ }

@@ -138,14 +138,14 @@ module _ (g before : List ℕ) where
           let t : rowRefusal g ≡ 0 = sym (ap (λ (y : Inverted). y .number) answered ∙ inverted-number g (rowRefusal g)) ∙ z in
           (passed 0 (rw (eq-eqb (length before) 8 l)), a ∙ ap (λ (y : Inverted). y .row) (answered ∙ inverted-done g t))
 
--- in plain terms: judged exactly when it has eight bytes, and 4 otherwise
-pub judge-taken : (g : List ℕ) → (judgeNumber g ≡ 0) ↔ (length g ≡ 8)
-unfolding judgeNumber
-judge-taken g = (λ e. eqb-true (length g) 8 (unless-zero (eqb (length g) 8) 3 _ e .0), λ h. rw (eq-eqb (length g) 8 h))
-
+-- in plain terms: 4 for any other length, and judged exactly when it has eight bytes
 pub judge-four : (g : List ℕ) → (length g ≡ 8 → ⊥) → judgeNumber g ≡ 4
 unfolding judgeNumber
 judge-four g h = rw (ne-eqb (length g) 8 h)
+
+pub judge-taken : (g : List ℕ) → (judgeNumber g ≡ 0) ↔ (length g ≡ 8)
+unfolding judgeNumber
+judge-taken g = (λ e. eqb-true (length g) 8 (unless-zero (eqb (length g) 8) 3 _ e .0), λ h. rw (eq-eqb (length g) 8 h))
 
 -- as the code has it
 pub judge-length : (g : List ℕ) → (length g ≡ 8 → ⊥) → (4 ≡ judgeNumber g) × VerdictGiven g 4 0 0

@@ -9,23 +9,24 @@ use lib.ListN.{replicate}
 use Rattle.field.specs.Lists.{tabulate, xorSum, pick, iterate}
 use Rattle.field.specs.Words.{byte}
 use Rattle.field.specs.Field.{timesX, shift, mul, power}
-use Rattle.field.specs.Mixing.{mix, product, rowSum}
+use Rattle.field.specs.Mixing.{mix, product, rowSum, scale}
 use Rattle.field.specs.Published.{row}
 use Rattle.field.proofs.Field.{zero-mul, no-divisors}
 use Rattle.field.proofs.Power.{power-lt, power-pos, power-255}
 use Rattle.field.proofs.Mixing.{mix-product, mix-mix}
 use Rattle.rows.specs.Inverse.{Row, constantRow, neutral, rowPower, reciprocal, inverseRow, inverted}
 use Rattle.rows.proofs.Rows.{row-accepted}
-use Rattle.rows.proofs.Ring.{bytesOf, bytes-row, product-comm, product-assoc, constant-constant, mix-neutral, product-neutral, power-bytes, eighth-power, sum-product, sum-lt}
+use Rattle.rows.proofs.Ring.{bytesOf, bytes-row, product-comm, product-assoc, constant-constant, mix-constant, mix-neutral, product-neutral, power-bytes, eighth-power, sum-product, sum-lt}
 
 -- ---- it is an inverse
 
--- as the code has it: the seventh power as a word, mixed by the constant row
-pub inverse-bytes : (g : List ℕ) → inverseRow g ≡ bytesOf (mix (constantRow (reciprocal (power (rowSum g) 8))) (iterate 7 (mix g) 1))
+-- as the code has it: the seventh power as a word, every byte divided
+pub inverse-bytes : (g : List ℕ) → inverseRow g ≡ bytesOf (scale (reciprocal (power (rowSum g) 8)) (iterate 7 (mix g) 1))
 unfolding inverseRow
 inverse-bytes g =
-    let k = constantRow (reciprocal (power (rowSum g) 8)) in
-    ap (λ (x : List ℕ). product x k) (power-bytes g 7) ∙ sym (mix-product k (iterate 7 (mix g) 1))
+    let c = reciprocal (power (rowSum g) 8) in
+    let w = iterate 7 (mix g) 1 in
+    ap (λ (x : List ℕ). product x (constantRow c)) (power-bytes g 7) ∙ sym (mix-product (constantRow c) w) ∙ ap bytesOf (mix-constant c w)
 
 pub inverse-row : (g : List ℕ) → Row (inverseRow g)
 inverse-row g = subst Row (sym (inverse-bytes g)) (bytes-row _)

@@ -77,7 +77,7 @@ mix-order g h w = mix-mix g h w ∙ ap (λ (r : List ℕ). mix r w) (product-com
 
 -- ---- constant rows
 
-mix-constant : (c w : ℕ) → mix (constantRow c) w ≡ scale c w
+pub mix-constant : (c w : ℕ) → mix (constantRow c) w ≡ scale c w
 unfolding constantRow single tabulate pick
 mix-constant c w = mix-single c w
 

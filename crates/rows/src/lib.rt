@@ -10,7 +10,7 @@ ghost use Rattle.field.specs.Merged.{merged};
 ghost use Rattle.field.specs.Published.{table1};
 ghost use Rattle.labyrinth.specs.Refusals.{outcome};
 ghost use Rattle.rows.specs.Rows.{rowRefusal, tableRefusal, mixed};
-ghost use Rattle.rows.specs.Inverse.{constantRow, inverted};
+ghost use Rattle.rows.specs.Inverse.{inverted};
 
 // The XOR of a row's coefficients.
 fn row_sum(g: [u8; 8]) -> u8
@@ -107,13 +107,6 @@ fn power(g: [u8; 8], n: usize) -> u64
     w
 }
 
-// The row of c and seven 00.
-fn constant_row(c: u8) -> [u8; 8]
-    ensures { λ r. ⌜ r ≡ constantRow c ⌝ }
-{
-    [c, 0, 0, 0, 0, 0, 0, 0]
-}
-
 // What inversion answers: the number, and the inverse row, or the zero row on a refusal.
 pub struct Inverted {
     pub number: u8,
@@ -133,7 +126,7 @@ pub fn inverse(g: [u8; 8]) -> Inverted
     }
     let eighth = arithmetic::power(sum, 8);
     let reciprocal = arithmetic::power(eighth, 254);
-    let row = row_of(mixing::mix_row(constant_row(reciprocal), power(g, 7)));
+    let row = row_of(arithmetic::times_each(power(g, 7), reciprocal));
     Inverted {
         number: 0,
         row: row,

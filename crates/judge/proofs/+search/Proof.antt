@@ -1,6 +1,5 @@
 -- Byte z - 1 is asked to be zero, and if that leaves no such word it is not. It ends because z falls.
 -- Assumes nothing.
-use mathlib.Core.Path.{_≡_}
 use Prim.Native.Nat.{ℕ, _<_}
 use native.Mathlib.Omega.{arith}
 use borrow.Author.Needs.{needs}

@@ -1,8 +1,11 @@
 -- Bytes 0 to 7 are the rows of a, bytes 8 to 15 the rows of m times a.
 -- Assumes nothing.
-use mathlib.Core.Path.{sym, _∙_}
+use mathlib.Core.Path.{_≡_, sym, _∙_}
+use mathlib.Core.List.{[]}
+use Prim.Native.Nat.{_-_}
 use native.Mathlib.Omega.{arith}
-use Rattle.field.specs.Mixing.{mixBy}
+use lib.ListN.{getD}
+use Rattle.field.specs.Mixing.{dot, mixBy}
 use Rattle.judge.proofs.Elimination.{byte-mixBy, sixteen-low, sixteen-high}
 use borrow.Author.Needs.{needs}
 use Rattle.judge.proofs.byte_row.Statement.{statement}
@@ -27,7 +30,10 @@ row-times-requires : tie.Need-row-times-requires
 row-times-requires c κs = search needs
 
 returns-2 : tie.Need-returns-2
-returns-2 c w = c .row-times .ensures w ∙ sym (byte-mixBy _ _ _ (omega arith)) ∙ sixteen-high _ _ _ (omega arith)
+returns-2 c w =
+    let a = c .before .before .before .args in
+    let row : dot (c .row-times .result) w ≡ dot (getD (a .t1) (a .z - 8) []) (mixBy (a .t2) w) = c .row-times .ensures w in
+    row ∙ sym (byte-mixBy _ _ _ (omega arith)) ∙ sixteen-high _ _ _ (omega arith)
 
 pub byte-row-spec : {M : Type 1} → statement M
 byte-row-spec =

@@ -1,13 +1,12 @@
 -- With a pivot, its unknown is worked out of y and put in everywhere; without one, y gives 0 as it is.
 -- Assumes nothing.
 use mathlib.Core.Path.{_≡_, sym, ap, _∙_, subst}
-use mathlib.Core.List.{List}
 use Prim.Native.Nat.{ℕ, _<_}
 use native.Mathlib.Omega.{arith}
-use lib.ListN.{replicate}
+use lib.ListN.{getD, replicate}
+use Rattle.field.specs.Field.{power}
 use Rattle.judge.specs.Elimination.{combined, cleared, Restricted}
 use Rattle.judge.proofs.Elimination.{restricted-none, restricted-some}
-use Rattle.rows.proofs.Ring.{given-row}
 use borrow.Author.Needs.{needs}
 use Rattle.judge.proofs.restrict.Statement.{statement}
 use Rattle.judge.proofs.restrict.Tie as tie
@@ -37,8 +36,9 @@ returns-2 c =
     let y = s .args .t2 in
     let v = c .before .before .before .before .pivot in
     let l : v .result < 8 = omega arith in
+    let reciprocal : c .before .before .power .result ≡ power (getD y (v .result) 0) 254 = c .before .before .power .ensures in
     subst (Restricted a y)
-    (sym (c .clear-column .ensures ∙ ap (cleared a (v .result)) (c .before .add-times .ensures ∙ ap (λ (x : ℕ). combined (replicate 8 0) x y) (c .before .before .power .ensures))))
+    (sym (c .clear-column .ensures ∙ ap (cleared a (v .result)) (c .before .add-times .ensures ∙ ap (λ (x : ℕ). combined (replicate 8 0) x y) reciprocal)))
     (restricted-some a y (v .result) l (v .ensures .some l) (v .ensures .small))
 
 pub restrict-spec : {M : Type 1} → statement M

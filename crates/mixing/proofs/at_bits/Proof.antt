@@ -1,7 +1,7 @@
 -- After t turns the word is the XOR over the bits below t.
 -- Assumes nothing.
 use mathlib.Core.Path.{_≡_, refl}
-use Prim.Native.Nat.{ℕ, _≤_, _<_, _-_, _*_, _/_, _%_, _^_}
+use Prim.Native.Nat.{_≤_, _-_, _*_, _/_, _%_, _^_}
 use native.Mathlib.Omega.{arith}
 use mir.Syntax.{w64}
 use lib.ListN.{getD}

@@ -5,8 +5,8 @@ use mathlib.Core.List.{List}
 use Prim.Native.Nat.{ℕ}
 use Rattle.field.specs.Lists.{iterate}
 use Rattle.field.specs.Field.{power}
-use Rattle.field.specs.Mixing.{mix, rowSum}
-use Rattle.rows.specs.Inverse.{constantRow, reciprocal, inverted}
+use Rattle.field.specs.Mixing.{mix, rowSum, scale}
+use Rattle.rows.specs.Inverse.{reciprocal, inverted}
 use Rattle.rows.proofs.Rows.{row-zero, row-iff}
 use Rattle.rows.proofs.Ring.{bytesOf}
 use Rattle.rows.proofs.Inverses.{inverse-bytes, inverted-done}
@@ -30,14 +30,11 @@ power-requires c κs = search needs
 power-requires-2 : tie.Need-power-requires-2
 power-requires-2 c κs = search needs
 
-constant-row-requires : tie.Need-constant-row-requires
-constant-row-requires c κs = search needs
-
 power-requires-3 : tie.Need-power-requires-3
 power-requires-3 c κs = search needs
 
-mix-row-requires : tie.Need-mix-row-requires
-mix-row-requires c κs = search needs
+times-each-requires : tie.Need-times-each-requires
+times-each-requires c κs = search needs
 
 row-of-requires : tie.Need-row-of-requires
 row-of-requires c κs = search needs
@@ -47,18 +44,16 @@ unfolding reciprocal
 returns-2 c =
     let m = c .before in
     let seventh = m .before in
-    let constant = seventh .before in
-    let divided = constant .before in
+    let divided = seventh .before in
     let eighth = divided .before in
     let s = eighth .before .before in
     let g = s .before .args .g in
     let sum : s .row-sum .result ≡ rowSum g = s .row-sum .ensures in
     let factor : divided .power2 .result ≡ reciprocal (power (rowSum g) 8) =
     divided .power2 .ensures ∙ ap reciprocal (eighth .power .ensures ∙ ap (λ (x : ℕ). power x 8) sum) in
-    let row : constant .constant-row .result ≡ constantRow (divided .power2 .result) = constant .constant-row .ensures in
     let power7 : seventh .power3 .result ≡ iterate 7 (mix g) 1 = seventh .power3 .ensures in
-    let word : m .mix-row .result ≡ mix (constantRow (reciprocal (power (rowSum g) 8))) (iterate 7 (mix g) 1) =
-    m .mix-row .ensures ∙ ap₂ mix (row ∙ ap constantRow factor) power7 in
+    let word : m .times-each .result ≡ scale (reciprocal (power (rowSum g) 8)) (iterate 7 (mix g) 1) =
+    m .times-each .ensures ∙ ap₂ scale factor power7 in
     ap (λ (r : List ℕ). record { number = 0; row = r }) (c .row-of .ensures ∙ ap bytesOf word ∙ sym (inverse-bytes g))
     ∙ sym (inverted-done g (row-iff g .1 (λ z. eighth .before .if1 .left (sum ∙ z))))
 
@@ -70,8 +65,7 @@ inverse-spec =
     returns
     power-requires
     power-requires-2
-    constant-row-requires
     power-requires-3
-    mix-row-requires
+    times-each-requires
     row-of-requires
     returns-2)
