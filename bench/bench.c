@@ -393,7 +393,7 @@ static void rows(void) {
     for (int pass = 0; pass < 300; pass++)
         for (int i = 0; i < 4; i++) keep(&best[i], make_rows(by[i]));
     printf("The product of two rows, ours: %.1f ns. C's time by the same loops / ours: %.2f.\n", best[0], best[1] / best[0]);
-    printf("The inverse row, ours: %.0f ns. C's time, which divides all bytes at once / ours: %.2f.\n", best[2], best[3] / best[2]);
+    printf("The inverse row, ours: %.0f ns. C's time by the same loops / ours: %.2f.\n", best[2], best[3] / best[2]);
 }
 
 static uint64_t judge(const uint8_t row[8]) {

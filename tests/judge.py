@@ -86,15 +86,23 @@ def fault(row, sizes, line):
     return None
 
 
+def told(row, word):
+    """A no with this word, truly counted."""
+    before, after = active(word), active(mixed(bytes.fromhex(row), word))
+    return f"{row} no {word:016x} before {before} after {after} together {before + after}"
+
+
 def altered(line):
-    """The line told otherwise, in each way that it can be."""
+    """The line told otherwise: the other verdict, another word, other counts, another row."""
     row, verdict, *more = line.split(" ")
     if verdict == "yes":
-        return [f"{row} no {1:016x} before 1 after 8 together 9", f"{row} no {0:016x} before 0 after 0 together 0", ""]
+        return [told(row, 1), told(row, 0), ""]
     word, before, after, together = more[0], *(int(n) for n in more[2::2])
+    enough = [other for other in (told(row, 0x0102030405060708), told(row, 0x80)) if int(other.split()[-1]) > 8]
     return [
+        *enough,
         f"{row} yes",
-        f"{row} no {0:016x} before 0 after 0 together 0",
+        told(row, 0),
         f"{row} no {word} before {before + 1} after {after} together {together + 1}",
         f"{row} no {word} before {before} after {after - 1} together {together - 1}",
         f"{row} no {word} before {before} after {after} together {together + 1}",

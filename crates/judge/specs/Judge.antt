@@ -1,6 +1,8 @@
 -- Is a row good enough? (document 02, Job 6) "for every word that isn't zero, its non-zero bytes before and after mixing together number nine or
--- more. Mixing here is the matrix product, for rows that Job 4 refuses too." So mixing is the article's `mix`, by any row. The least of these numbers
--- is commonly called the branch number of the mixing; it is nine at most, and where it is nine the matrix is called MDS.
+-- more. Mixing here is the matrix product, for rows that Job 4 refuses too." So mixing is the article's `mix`, by any row.
+-- The article's 1.2 calls the least of these numbers, over all words that aren't zero, the number of activation branches (branch number). For eight
+-- bytes it is nine at most, and a cyclic matrix that has nine is called CMBN; 4.3 says of its row that a word has nine active bytes at least in sum,
+-- before and after the transformation.
 -- Assumes nothing.
 use Prim.Native.Nat.{ℕ, zero, suc, _+_, _^_, _≤_, _<_}
 use mathlib.Core.Path.{_≡_}
@@ -18,15 +20,15 @@ unfoldable pub nonzero : ℕ → (ℕ → ℕ) → ℕ
 nonzero zero f = 0
 nonzero (suc n) f = nonzero n f + when (eqb (f n) 0) 0 1
 
--- a word's non-zero bytes
+-- 1.2: a word's non-zero bytes, called active
 unfoldable pub activeBytes : ℕ → ℕ
 activeBytes w = nonzero 8 (byte w)
 
--- a word's non-zero bytes before and after mixing together
+-- 1.2: a word's non-zero bytes before and after mixing together
 unfoldable pub together : List ℕ → ℕ → ℕ
 together g w = activeBytes w + activeBytes (mix g w)
 
--- every word that isn't zero has nine or more
+-- 1.2, 4.3: every word that isn't zero has nine or more
 abbrev pub GoodEnough : List ℕ → Type 0
 GoodEnough g = (w : ℕ) → w < 2 ^ 64 → (w ≡ 0 → ⊥) → 9 ≤ together g w
 

@@ -1,7 +1,8 @@
-// Is a row good enough? (document 02, Job 6) A word that falls short has eight zeros or more among its eight bytes and the eight of the word
-// mixed. So eight of the sixteen are asked to be zero, every choice of eight in turn, and the row is good enough exactly when no choice leaves
-// a word but zero. The words that are left are the products of a matrix a with all words, the eight unknowns: at first every word. A byte that
-// is asked to be zero is an equation in the unknowns; one of them is worked out of it and put in everywhere.
+// Is a row good enough? (document 02, Job 6; the article's 1.2: is its matrix CMBN?) A word that falls short has eight zeros or more among its
+// eight bytes and the eight of the word mixed. So eight of the sixteen are asked to be zero, every choice of eight in turn, and the row is good
+// enough exactly when no choice leaves a word but zero. The words that are left are the products of a matrix a with all words, the eight
+// unknowns: at first every word. A byte that is asked to be zero is an equation in the unknowns; one of them is worked out of it and put in
+// everywhere.
 ghost use mathlib.Core.Path.{_≡_};
 ghost use Prim.Native.Nat.{ℕ, _≤_, _<_};
 ghost use Rattle.field.specs.Mixing.{dot, mixBy};
