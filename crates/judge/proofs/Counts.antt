@@ -27,13 +27,13 @@ pub count-one : (n : ℕ) (f : ℕ → ℕ) → (f n ≡ 0 → ⊥) → nonzero 
 unfolding nonzero
 count-one n f e = rw (ne-eqb (f n) 0 e)
 
+count-more : (n : ℕ) (f : ℕ → ℕ) → nonzero (suc n) f ≤ nonzero n f + 1
+count-more n f = elim (ℕ-discrete (f n) 0) [ yes e ↦ omega (arith, count-zero n f e) | no e ↦ omega (arith, count-one n f e) ]
+
 pub nonzero-most : (n : ℕ) (f : ℕ → ℕ) → nonzero n f ≤ n
 unfolding nonzero
 nonzero-most zero f = omega arith
-nonzero-most (suc n) f = elim (ℕ-discrete (f n) 0) [
-  | yes e ↦ omega (arith, count-zero n f e, nonzero-most n f)
-  | no e ↦ omega (arith, count-one n f e, nonzero-most n f)
-]
+nonzero-most (suc n) f = omega (arith, count-more n f, nonzero-most n f)
 
 -- one byte more, as a loop has it
 pub count-skip : (k : ℕ) (f : ℕ → ℕ) {n b : ℕ} → n ≡ nonzero k f → b ≡ f k → b ≡ 0 → n ≡ nonzero (k + 1) f
@@ -73,14 +73,8 @@ module _ (m a b : List (List ℕ)) (y : List ℕ) (n z r : ℕ) (row : (w : ℕ)
       }
 
   pub found-without : (q : ℕ) → Found m b n z q → q ≡ 0 → Found m a (suc n) z r → Found m a (suc n) (suc z) r
-  found-without q f e s = record { given = s .given; enough = enough; none = none }
+  found-without q f e s = record { given = s .given; enough = λ o. omega (arith, s .enough o, count-more z (sixteen m r)); none = none }
     where
-      enough : (r ≡ 0 → ⊥) → nonzero (suc z) (sixteen m r) + suc n ≤ suc z
-      enough o = elim (ℕ-discrete (sixteen m r z) 0) [
-        | yes t ↦ omega (arith, s .enough o, count-zero z (sixteen m r) t)
-        | no t ↦ omega (arith, s .enough o, count-one z (sixteen m r) t)
-      ]
-
       kept : (w : ℕ) → mixBy a w ≡ w → sixteen m w z ≡ 0 → mixBy b w ≡ w
       kept w k t = less .same w (row w ∙ ap (λ (x : ℕ). sixteen m x z) k ∙ t) ∙ k
 

@@ -117,7 +117,7 @@ mixBy-zero a = mixBy-none a 0 (λ i l. additive-zero (dot (getD a i [])) (dot-xo
 pub restricted-none : (a : List (List ℕ)) (y : List ℕ) → ((j : ℕ) → j < 8 → getD y j 0 ≡ 0) → Restricted a y a
 restricted-none a y h = record { same = λ w e. refl; within = λ w. (w, refl, dot-zeros y h w) }
 
-module _ (a : List (List ℕ)) (y : List ℕ) (p : ℕ) (l : p < 8) (nonzero : getD y p 0 ≡ 0 → ⊥) (small : getD y p 0 < 2 ^ 8) where
+module _ (a : List (List ℕ)) (y : List ℕ) (p : ℕ) (l : p < 8) (some : getD y p 0 ≡ 0 → ⊥) (small : getD y p 0 < 2 ^ 8) where
   abbrev c : ℕ
   c = power (getD y p 0) 254
 
@@ -183,7 +183,7 @@ left-none a h = record { given = (0, sym (mixBy-zero a)); none = λ e w. mixBy-n
 
 pub left-some : (a : List (List ℕ)) (i p : ℕ) {r : ℕ} → i < 8 → p < 8 → (getD (getD a i []) p 0 ≡ 0 → ⊥) → getD (getD a i []) p 0 < 2 ^ 8
     → r ≡ mixBy a (1 * 2 ^ (8 * p) % 2 ^ 64) → Left a r
-left-some a i p {r} hi hp nonzero small e = record { given = (t, e); none = λ z. absurd (nonzero (sym byte-there ∙ ap (λ (w : ℕ). byte w i) (sym e ∙ z) ∙ byte-zero i)) }
+left-some a i p {r} hi hp some small e = record { given = (t, e); none = λ z. absurd (some (sym byte-there ∙ ap (λ (w : ℕ). byte w i) (sym e ∙ z) ∙ byte-zero i)) }
   where
     t : ℕ
     t = 1 * 2 ^ (8 * p) % 2 ^ 64
