@@ -1,24 +1,23 @@
 -- The laws of mixing by any row: its bytes, 4.3's product, XOR, rotation by whole bytes, one row after another.
 -- Assumes nothing.
-use mathlib.Core.Path.{_≡_, refl, sym, ap, ap₂, _∙_}
-use mathlib.Core.List.{List, [], _∷_}
-use mathlib.Core.Logic.{_≢_}
-use Prim.Native.Nat.{ℕ, zero, suc, _+_, _-_, _*_, _/_, _%_, _^_, _≤_, _<_}
+use mathlib.Core.Path.{_≡_, sym, ap, ap₂, _∙_}
+use mathlib.Core.List.{List, []}
+use Prim.Native.Nat.{ℕ, _+_, _-_, _*_, _/_, _%_, _^_, _≤_, _<_}
 use native.Mathlib.Nat.{add-comm, add-mul-mod-self-right}
 use native.Mathlib.Omega.{arith}
 use borrow.Author.Tests.{eq-eqb, ne-eqb}
 use lib.Dec.{eqb}
-use lib.ListN.{getD, length}
+use lib.ListN.{getD}
 use lib.Bits.{bitXor, xor-lt}
 use Rattle.field.specs.Lists.{tabulate, xorSum, pick}
-use Rattle.field.specs.Words.{byte, join, rotl}
+use Rattle.field.specs.Words.{byte, rotl}
 use Rattle.field.specs.Field.{mul}
-use Rattle.field.specs.Mixing.{LCM, element, matrix, dot, mixBy, mix, product, scale}
+use Rattle.field.specs.Mixing.{element, matrix, dot, mixBy, mix, product, scale}
 use Rattle.field.proofs.Xor.{Additive}
 use Rattle.field.proofs.Lists.{getD-tabulate, tabulate-cong}
 use Rattle.field.proofs.Field.{mul-xor-l, mul-xor-r, mul-assoc, mul-comm, mul-lt}
 use Rattle.field.proofs.Sums.{xorSum-cong, xorSum-lt, into, xorSum-xor, xorSum-swap, xorSum-only, cycle}
-use Rattle.field.proofs.Words.{byte-lt, byte-xor, join-lt, byte-join, join-cong, word-ext, rotl-lt, byte-rotl}
+use Rattle.field.proofs.Words.{byte-xor, join-lt, byte-join, word-ext, rotl-lt, byte-rotl}
 use Rattle.field.proofs.Scale.{scale-lt, byte-scale}
 
 -- the cyclic product of two functions of the numbers below 8
@@ -49,10 +48,14 @@ unfolding matrix
 matrix-element g i j hi hj =
     ap (λ (r : List ℕ). getD r j 0) (getD-tabulate 8 (λ i. tabulate 8 (λ j. element g i j)) [] i hi) ∙ getD-tabulate 8 (element g i) 0 j hj
 
+pub byte-mixBy : (m : List (List ℕ)) (w i : ℕ) → i < 8 → byte (mixBy m w) i ≡ dot (getD m i []) w
+unfolding mixBy
+byte-mixBy m w i l = byte-join 8 (λ i. dot (getD m i []) w) (λ i. dot-lt (getD m i []) w) i l
+
 pub byte-mix : (g : List ℕ) (w i : ℕ) → i < 8 → byte (mix g w) i ≡ conv (byte w) (λ k. getD g k 0) i
-unfolding mix mixBy dot element conv
+unfolding mix dot element conv
 byte-mix g w i l =
-    byte-join 8 (λ i. dot (getD (matrix g) i []) w) (λ i. dot-lt (getD (matrix g) i []) w) i l
+    byte-mixBy (matrix g) w i l
     ∙ xorSum-cong 8 (λ j. mul (byte w j) (getD (getD (matrix g) i []) j 0)) (λ j. mul (byte w j) (element g i j))
     (λ j m. ap (mul (byte w j)) (matrix-element g i j l m))
 
@@ -116,20 +119,25 @@ mix-coefficients g w =
 
 -- ---- XOR
 
-byte-mix-xor : (g : List ℕ) (i : ℕ) → Additive (λ w. conv (byte w) (λ k. getD g k 0) i)
-unfolding conv
-byte-mix-xor g i a b =
+pub dot-xor : (r : List ℕ) → Additive (dot r)
+unfolding dot
+dot-xor r a b =
     xorSum-cong 8 (λ j. mul (byte (bitXor a b) j) (at j)) (λ j. bitXor (mul (byte a j) (at j)) (mul (byte b j) (at j)))
     (λ j l. ap (λ (x : ℕ). mul x (at j)) (byte-xor j a b) ∙ mul-xor-l (byte a j) (byte b j) (at j))
     ∙ xorSum-xor 8 (λ j. mul (byte a j) (at j)) (λ j. mul (byte b j) (at j))
   where
     at : ℕ → ℕ
-    at j = getD g ((i + 8 - j) % 8) 0
+    at j = getD r j 0
+
+pub mixBy-xor : (m : List (List ℕ)) → Additive (mixBy m)
+mixBy-xor m a b =
+    word-ext (mixBy m (bitXor a b)) (bitXor (mixBy m a) (mixBy m b)) (mixBy-lt m (bitXor a b)) (xor-lt 64 (mixBy m a) (mixBy m b) (mixBy-lt m a) (mixBy-lt m b))
+    (λ k l. byte-mixBy m (bitXor a b) k l ∙ dot-xor (getD m k []) a b
+    ∙ sym (byte-xor k (mixBy m a) (mixBy m b) ∙ ap₂ bitXor (byte-mixBy m a k l) (byte-mixBy m b k l)))
 
 pub mix-xor : (g : List ℕ) → Additive (mix g)
-mix-xor g a b =
-    word-ext (mix g (bitXor a b)) (bitXor (mix g a) (mix g b)) (mix-lt g (bitXor a b)) (xor-lt 64 (mix g a) (mix g b) (mix-lt g a) (mix-lt g b))
-    (λ k l. byte-mix g (bitXor a b) k l ∙ byte-mix-xor g k a b ∙ sym (byte-xor k (mix g a) (mix g b) ∙ ap₂ bitXor (byte-mix g a k l) (byte-mix g b k l)))
+unfolding mix
+mix-xor g = mixBy-xor (matrix g)
 
 -- ---- rotation by whole bytes
 

@@ -11,7 +11,7 @@ use lib.Bits.{bitXor, bitOr, xor-shr, xor-mod, xor-lt, or-shifted, xor-block}
 use lib.Arith.{digits-lt}
 use lib.Pow.{pow-pos, pow-add, split, high, low, field, mod-pow-add, shr-shr, shl-shr, shl-exact, shr-lt}
 use Rattle.field.specs.Words.{byte, join, rotl, rotr, eachByte}
-use Rattle.field.proofs.Xor.{Additive}
+use Rattle.field.proofs.Xor.{Additive, additive-zero}
 use Rattle.field.proofs.Sums.{into}
 
 pub byte-lt : (w k : ℕ) → byte w k < 2 ^ 8
@@ -27,6 +27,9 @@ unfolding byte
 byte-xor k a b = ap (λ (x : ℕ). x % 2 ^ 8) (xor-shr a b (8 * k)) ∙ xor-mod (a / 2 ^ (8 * k)) (b / 2 ^ (8 * k)) 8
 
 -- what stands from bit m on is nothing to a byte below
+pub byte-zero : (k : ℕ) → byte 0 k ≡ 0
+byte-zero k = additive-zero (λ w. byte w k) (byte-xor k)
+
 pub byte-low : (x m p k : ℕ) → 8 + 8 * k ≤ m → byte (x * 2 ^ m + p) k ≡ byte p k
 unfolding byte
 byte-low x m p k h =

@@ -9,22 +9,22 @@ use borrow.Author.Tests.{eq-eqb, ne-eqb, lt-ltb, le-ltb}
 use lib.Dec.{eqb}
 use lib.ListN.{getD, replicate, getD-replicate}
 use lib.Bits.{bitXor, xor-self, xor-zero-l, xor-zero-r}
-use Rattle.field.specs.Lists.{tabulate, xorSum, pick}
+use Rattle.field.specs.Lists.{xorSum, pick}
 use Rattle.field.specs.Words.{byte, join}
-use Rattle.field.specs.Field.{mul, power}
+use Rattle.field.specs.Field.{mul}
 use Rattle.field.specs.Mixing.{dot, mixBy, scale}
-use Rattle.field.proofs.Xor.{Additive, additive-zero}
+use Rattle.field.proofs.Xor.{additive-zero}
 use Rattle.field.proofs.Tests.{all, at, agree}
 use Rattle.field.proofs.Lists.{getD-tabulate, tabulate-cong}
 use Rattle.field.proofs.Sums.{xorSum-cong, into, xorSum-zero, xorSum-xor, xorSum-only}
-use Rattle.field.proofs.Words.{byte-xor, byte-join, join-cong}
+use Rattle.field.proofs.Words.{byte-xor, byte-zero, byte-join, join-cong}
 use Rattle.field.proofs.Field.{mul-xor-l, mul-xor-r, mul-comm, mul-assoc, mul-one, one-mul, zero-mul, mul-zero}
-use Rattle.field.proofs.Power.{power-255}
 use Rattle.field.proofs.Scale.{byte-scale}
-use Rattle.field.proofs.Mixing.{dot-lt}
+use Rattle.field.proofs.Mixing.{dot-lt, byte-mixBy, dot-xor, mixBy-xor}
 use Rattle.buffers.specs.Words.{wordAt}
-use Rattle.rows.specs.Inverse.{Row}
+use Rattle.rows.specs.Inverse.{Row, reciprocal}
 use Rattle.rows.proofs.Ring.{bytesOf, byte-loaded}
+use Rattle.rows.proofs.Inverses.{reciprocal-one}
 use Rattle.judge.specs.Elimination.{combined, cleared, Restricted, sixteen, Left}
 
 -- ---- a row as a word
@@ -37,13 +37,6 @@ sum-of-words x c y {v} {w} {u} rx ry ev ew eu =
     (λ j l. byte-xor j v u ∙ ap₂ bitXor (byte-loaded x rx ev j l) (ap (λ (t : ℕ). byte t j) eu ∙ byte-scale c w j l ∙ ap (λ (b : ℕ). mul b c) (byte-loaded y ry ew j l)))
 
 -- ---- a row times a word
-
-dot-xor : (x : List ℕ) → Additive (dot x)
-unfolding dot
-dot-xor x a b =
-    xorSum-cong 8 (λ j. mul (byte (bitXor a b) j) (getD x j 0)) (λ j. bitXor (mul (byte a j) (getD x j 0)) (mul (byte b j) (getD x j 0)))
-    (λ j l. ap (λ (y : ℕ). mul y (getD x j 0)) (byte-xor j a b) ∙ mul-xor-l (byte a j) (byte b j) (getD x j 0))
-    ∙ xorSum-xor 8 (λ j. mul (byte a j) (getD x j 0)) (λ j. mul (byte b j) (getD x j 0))
 
 pub dot-combined : (x : List ℕ) (c : ℕ) (y : List ℕ) (w : ℕ) → dot (combined x c y) w ≡ bitXor (dot x w) (mul (dot y w) c)
 unfolding dot combined
@@ -94,10 +87,6 @@ one-single p l j m =
 
 -- ---- a matrix times a word
 
-pub byte-mixBy : (a : List (List ℕ)) (w i : ℕ) → i < 8 → byte (mixBy a w) i ≡ dot (getD a i []) w
-unfolding mixBy
-byte-mixBy a w i l = byte-join 8 (λ i. dot (getD a i []) w) (λ i. dot-lt (getD a i []) w) i l
-
 mixBy-cong : (a b : List (List ℕ)) (w v : ℕ) → ((i : ℕ) → i < 8 → dot (getD a i []) w ≡ dot (getD b i []) v) → mixBy a w ≡ mixBy b v
 unfolding mixBy
 mixBy-cong a b w v h = join-cong 8 (λ i. dot (getD a i []) w) (λ i. dot (getD b i []) v) h
@@ -106,11 +95,8 @@ mixBy-none : (a : List (List ℕ)) (w : ℕ) → ((i : ℕ) → i < 8 → dot (g
 unfolding mixBy join
 mixBy-none a w h = join-cong 8 (λ i. dot (getD a i []) w) (λ i. 0) h
 
-byte-zero : (i : ℕ) → byte 0 i ≡ 0
-byte-zero i = additive-zero (λ w. byte w i) (byte-xor i)
-
 pub mixBy-zero : (a : List (List ℕ)) → mixBy a 0 ≡ 0
-mixBy-zero a = mixBy-none a 0 (λ i l. additive-zero (dot (getD a i [])) (dot-xor (getD a i [])))
+mixBy-zero a = additive-zero (mixBy a) (mixBy-xor a)
 
 -- ---- one row is to give 0
 
@@ -119,7 +105,7 @@ restricted-none a y h = record { same = λ w e. refl; within = λ w. (w, refl, d
 
 module _ (a : List (List ℕ)) (y : List ℕ) (p : ℕ) (l : p < 8) (some : getD y p 0 ≡ 0 → ⊥) (small : getD y p 0 < 2 ^ 8) where
   abbrev c : ℕ
-  c = power (getD y p 0) 254
+  c = reciprocal (getD y p 0)
 
   -- y with 1 at p
   abbrev u : List ℕ
@@ -147,7 +133,7 @@ module _ (a : List (List ℕ)) (y : List ℕ) (p : ℕ) (l : p < 8) (some : getD
 
   zero-there : (w : ℕ) → dot y (solved w) ≡ 0
   zero-there w =
-      let one : mul c (getD y p 0) ≡ 1 = mul-comm c (getD y p 0) ∙ power-255 (getD y p 0) (omega arith) small in
+      let one : mul c (getD y p 0) ≡ 1 = mul-comm c (getD y p 0) ∙ reciprocal-one (getD y p 0) (omega arith) small in
       let back : mul (dot u w) (getD y p 0) ≡ dot y w =
       ap (λ (x : ℕ). mul x (getD y p 0)) (dot-u w) ∙ mul-assoc (dot y w) c (getD y p 0) ∙ ap (mul (dot y w)) one ∙ mul-one (dot y w) (dot-lt y w) in
       dot-solved y w ∙ ap (bitXor (dot y w)) back ∙ xor-self (dot y w)

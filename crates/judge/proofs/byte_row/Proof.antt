@@ -6,7 +6,8 @@ use Prim.Native.Nat.{_-_}
 use native.Mathlib.Omega.{arith}
 use lib.ListN.{getD}
 use Rattle.field.specs.Mixing.{dot, mixBy}
-use Rattle.judge.proofs.Elimination.{byte-mixBy, sixteen-low, sixteen-high}
+use Rattle.field.proofs.Mixing.{byte-mixBy}
+use Rattle.judge.proofs.Elimination.{sixteen-low, sixteen-high}
 use borrow.Author.Needs.{needs}
 use Rattle.judge.proofs.byte_row.Statement.{statement}
 use Rattle.judge.proofs.byte_row.Tie as tie

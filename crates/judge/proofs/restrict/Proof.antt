@@ -4,7 +4,7 @@ use mathlib.Core.Path.{_≡_, sym, ap, _∙_, subst}
 use Prim.Native.Nat.{ℕ, _<_}
 use native.Mathlib.Omega.{arith}
 use lib.ListN.{getD, replicate}
-use Rattle.field.specs.Field.{power}
+use Rattle.rows.specs.Inverse.{reciprocal}
 use Rattle.judge.specs.Elimination.{combined, cleared, Restricted}
 use Rattle.judge.proofs.Elimination.{restricted-none, restricted-some}
 use borrow.Author.Needs.{needs}
@@ -30,15 +30,16 @@ clear-column-requires : tie.Need-clear-column-requires
 clear-column-requires c κs = search needs
 
 returns-2 : tie.Need-returns-2
+unfolding reciprocal
 returns-2 c =
     let s = c .before .before .before .before .before in
     let a = s .args .a in
     let y = s .args .t2 in
     let v = c .before .before .before .before .pivot in
     let l : v .result < 8 = omega arith in
-    let reciprocal : c .before .before .power .result ≡ power (getD y (v .result) 0) 254 = c .before .before .power .ensures in
+    let divisor : c .before .before .power .result ≡ reciprocal (getD y (v .result) 0) = c .before .before .power .ensures in
     subst (Restricted a y)
-    (sym (c .clear-column .ensures ∙ ap (cleared a (v .result)) (c .before .add-times .ensures ∙ ap (λ (x : ℕ). combined (replicate 8 0) x y) reciprocal)))
+    (sym (c .clear-column .ensures ∙ ap (cleared a (v .result)) (c .before .add-times .ensures ∙ ap (λ (x : ℕ). combined (replicate 8 0) x y) divisor)))
     (restricted-some a y (v .result) l (v .ensures .some l) (v .ensures .small))
 
 pub restrict-spec : {M : Type 1} → statement M
