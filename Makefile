@@ -22,8 +22,9 @@ test:
 
 lib:
 	rt staticlib labyrinth_c
+	rt staticlib rows_c
 	mkdir -p target/dist
-	cp target/staticlib/liblabyrinth_c.a target/dist/liblabyrinth.a
+	printf 'create target/dist/liblabyrinth.a\naddlib target/staticlib/liblabyrinth_c.a\naddlib target/staticlib/librows_c.a\nsave\nend\n' | ar -M
 	cp include/labyrinth.h target/dist/labyrinth.h
 
 example: lib
@@ -35,12 +36,11 @@ example: lib
 compare: lib
 	tests/compare_c.py $${ARCHIVIST:+--archivist "$$ARCHIVIST"} $${SEED:+--seed "$$SEED"}
 
-bench:
+bench: lib
 	rt staticlib bench_blocks
-	rt staticlib labyrinth_c
 	with=; if printf '#include <openssl/evp.h>\nint main(void) { return EVP_aria_128_ctr() == 0; }\n' | gcc -x c -o target/has_openssl - -lcrypto 2>/dev/null; \
 	then with='-DOPENSSL -lcrypto'; fi; \
-	gcc -std=c11 -O3 -Wall -Wextra -o target/bench bench/bench.c bench/labyrinth.c bench/others.c target/staticlib/libbench_blocks.a target/staticlib/liblabyrinth_c.a $$with
+	gcc -std=c11 -O3 -Wall -Wextra -o target/bench bench/bench.c bench/labyrinth.c bench/others.c target/staticlib/libbench_blocks.a target/dist/liblabyrinth.a $$with
 	target/bench
 
 paper:

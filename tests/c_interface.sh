@@ -1,8 +1,8 @@
 #!/usr/bin/env bash
 # The C interface: the header in three languages, the archive's symbols and sections, the examples against the archivists' program, and
-# tests/c_interface.c; each shown to notice what it is to notice. Builds target/dist if it isn't there.
+# the program in tests/c_interface; each shown to notice what it is to notice. Builds target/dist if it isn't there.
 #
-#     tests/c_interface.sh [--long] [--seed N]      words for tests/c_interface.c
+#     tests/c_interface.sh [--long] [--seed N]      words for that program
 set -u
 export LC_ALL=C
 cd "$(dirname "$0")/.." || exit 1
@@ -163,7 +163,7 @@ for example in page convert; do
 done
 
 # ---- numbers, NULL, runs, tags, rows and verdicts, stack, lent memory
-gcc -std=gnu11 -O2 $warnings -Wl,-z,now -I target/dist tests/c_interface.c "$archive" -o "$work/c_interface" || { echo "c_interface: not compiled"; exit 1; }
-"$work/c_interface" "$@" || wrong "tests/c_interface.c failed"
+gcc -std=gnu11 -O2 $warnings -Wl,-z,now -I target/dist tests/c_interface/*.c "$archive" -o "$work/c_interface" || { echo "c_interface: not compiled"; exit 1; }
+"$work/c_interface" "$@" || wrong "tests/c_interface failed"
 [ $status -eq 0 ] || echo "c_interface: FAILED"
 exit $status

@@ -1,7 +1,7 @@
 #!/usr/bin/env python3
 """Tries the command labyrinth (target/rust/release/labyrinth): the archivists' CBC, CTR and CMAC vectors through files and standard streams,
 the page of its own help, every exit status and number, and that no run leaves a half-written OUT; then shows that one altered byte is
-noticed. Expected numbers are those of documents 01 and 02, expected bytes and tags the archivists'."""
+noticed. Expected numbers are those of documents 01 and 02 (tests/papers.py), expected bytes and tags the archivists'."""
 import json
 import os
 import pty
@@ -18,9 +18,10 @@ import time
 sys.dont_write_bytecode = True
 HERE = os.path.dirname(os.path.abspath(__file__))
 ROOT = os.path.dirname(HERE)
-sys.path.insert(0, os.path.join(HERE, "archivists"))
+sys.path[:0] = [os.path.join(HERE, "archivists"), HERE]
 import labyrinth
 import modes
+import papers
 
 BUILT = os.path.join(ROOT, "target", "rust", "release", "labyrinth")
 KEY = "f00dfeedf00dfeed0123456789abcdef"
@@ -104,6 +105,13 @@ class Place:
             self.untouched(what, before, old)
         self.count += 1
 
+    def refuses(self, what, number, words, **more):
+        """Status 1, with this number, which is the papers'."""
+        wanted = papers_number(self, words)
+        if number != wanted:
+            raise Wrong(f"{what}: the papers give {wanted}, not {number}")
+        self.fails(what, 1, f"refused with {number}:", words, **more)
+
     def untouched(self, what, before, old):
         """The files are those from before, and an old OUT, which goes now, is as it was."""
         if self.names() != before:
@@ -131,6 +139,17 @@ def tag_words(way="tag", l=2, key="key", value=None, names=("page",)):
     """The value is --length's for tag, --tag's for verify."""
     option = [] if value is None else ["--length" if way == "tag" else "--tag", str(value)]
     return [way, "-l", str(l), "--key-file", key, *option, *names]
+
+
+def papers_number(place, words):
+    """For words as the two functions above make them, with files of hexadecimal digits for the key and of bytes for IN."""
+    way, names = words[0], 1 if words[0] in ("tag", "verify") else 2
+    said = dict(zip(words[1:-names:2], words[2:-names:2]))
+    l, key = int(said["-l"]), len(place.read(said["--key-file"])) // 2
+    if names == 1:
+        return papers.through_c("cmac", 1, l, key, 0, 0, int(said.get("--length", 16)) if way == "tag" else len(said["--tag"]) // 2)
+    source = len(place.read(words[-2]))
+    return papers.through_c("ctr" if said["--mode"] == "ctr" else f"cbc_{way}", int(said["-n"]), l, key, len(said["--start"]) // 2, source, source)
 
 
 def sealed(mode, data, q=0):
@@ -212,7 +231,7 @@ def tag_forms(place):
     name = os.fsencode(place.path) + b"/\xff\xfe"
     place.write(os.fsdecode(name), page)
     place.works("a name that is no text", tag_words(names=(name,)), line, out="-")
-    for length in range(8, 17):
+    for length in papers.TAG_LENGTHS:
         place.works(f"{length} bytes", tag_words(value=length), tag_of(page, length).encode() + b"\n", out="-")
         place.works(f"{length} bytes verified", tag_words("verify", value=whole[: 2 * length]), b"", out="-")
         other = whole[: 2 * length - 1] + ("0" if whole[2 * length - 1] != "0" else "1")
@@ -250,16 +269,16 @@ def tag_refusals(place):
     whole = tag_of(place.read("page"))
     for way, short in (("tag", 7), ("verify", whole[:14])):
         for l in (0, 1, 5, 258, (1 << 32) + 2, 1 << 61, (1 << 64) - 1, 10**30):
-            place.fails(f"{way}, l = {l}", 1, "refused with 2:", tag_words(way, l=l, value=None if way == "tag" else whole), out=None)
+            place.refuses(f"{way}, l = {l}", 2, tag_words(way, l=l, value=None if way == "tag" else whole), out=None)
         for count in (0, 15, 17, 32):
             place.write("other.key", b"ab" * count)
-            place.fails(f"{way}, a key of {count} bytes", 1, "refused with 3:", tag_words(way, key="other.key", value=whole if way == "verify" else 8), out=None)
+            place.refuses(f"{way}, a key of {count} bytes", 3, tag_words(way, key="other.key", value=whole if way == "verify" else 8), out=None)
         missing = dict(value=short, names=("missing",))
-        place.fails(f"{way}, 2 before 3", 1, "refused with 2:", tag_words(way, l=9, key="other.key", **missing), out=None)
-        place.fails(f"{way}, 3 before 11", 1, "refused with 3:", tag_words(way, key="other.key", **missing), out=None)
-        place.fails(f"{way}, 11 before IN", 1, "refused with 11:", tag_words(way, **missing), out=None)
+        place.refuses(f"{way}, 2 before 3", 2, tag_words(way, l=9, key="other.key", **missing), out=None)
+        place.refuses(f"{way}, 3 before 11", 3, tag_words(way, key="other.key", **missing), out=None)
+        place.refuses(f"{way}, 11 before IN", 11, tag_words(way, **missing), out=None)
     for length in (0, 1, 7, 17, 18, 256 + 16, (1 << 32) + 8, (1 << 64) - 1, 1 << 64, 10**30):
-        place.fails(f"a tag of {length} bytes", 1, "refused with 11:", tag_words(value=length), out=None)
+        place.refuses(f"a tag of {length} bytes", 11, tag_words(value=length), out=None)
     for count in (0, 1, 7, 17, 24, 256 + 16):
         place.fails(f"a tag of {count} bytes to be verified", 1, f"--tag gives {count} bytes", tag_words("verify", value=(whole * 17)[: 2 * count]), out=None)
     os.remove(place.at("other.key"))
@@ -383,24 +402,24 @@ def help_page(place):
 def refusals(place):
     """Status 1, with the number; where several apply, the first by document 01's order."""
     for n in (0, 3, 8, 257, (1 << 32) + 1, (1 << 64) - 1, 1 << 64, 10**30):
-        place.fails(f"n = {n}", 1, "refused with 1:", words(n=n))
+        place.refuses(f"n = {n}", 1, words(n=n))
     for l in (0, 1, 5, 258, (1 << 32) + 2, 1 << 61, (1 << 64) - 1, 10**30):
-        place.fails(f"l = {l}", 1, "refused with 2:", words(l=l))
+        place.refuses(f"l = {l}", 2, words(l=l))
     for count in (0, 15, 17, 32):
         place.write("other.key", b"ab" * count)
-        place.fails(f"a key of {count} bytes", 1, "refused with 3:", words(key="other.key"))
-        place.fails(f"a start block of {count} bytes", 1, "refused with 6:", words(start="ab" * count))
+        place.refuses(f"a key of {count} bytes", 3, words(key="other.key"))
+        place.refuses(f"a start block of {count} bytes", 6, words(start="ab" * count))
     for way in ("seal", "open"):
         cbc = dict(way=way, mode="cbc")
-        place.fails("17 bytes by CBC", 1, "refused with 4:", words(**cbc, names=("odd", "out")))
+        place.refuses("17 bytes by CBC", 4, words(**cbc, names=("odd", "out")))
         place.fails("17 bytes by CBC", 1, "CBC takes whole blocks only, of 16 bytes", words(**cbc, names=("odd", "out")))
         for count in (1, 15, 17, MIB + 1):
             place.fails(f"{count} bytes by CBC", 1, f"IN has {count} bytes", words(**cbc, names=("-", "out")), given=bytes(count))
         place.fails("cut in the stream", 1, f"{MIB} bytes went to standard output", words(**cbc, names=("-", "-")), out="-", given=bytes(MIB + 1))
-        place.fails("1 before 2", 1, "refused with 1:", words(**cbc, n=3, l=9, key="other.key", start="00", names=("odd", "out")))
-        place.fails("2 before 3", 1, "refused with 2:", words(**cbc, l=9, key="other.key", start="00", names=("odd", "out")))
-        place.fails("3 before 6", 1, "refused with 3:", words(**cbc, key="other.key", start="00", names=("odd", "out")))
-        place.fails("6 before 4", 1, "refused with 6:", words(**cbc, start="00", names=("odd", "out")))
+        place.refuses("1 before 2", 1, words(**cbc, n=3, l=9, key="other.key", start="00", names=("odd", "out")))
+        place.refuses("2 before 3", 2, words(**cbc, l=9, key="other.key", start="00", names=("odd", "out")))
+        place.refuses("3 before 6", 3, words(**cbc, key="other.key", start="00", names=("odd", "out")))
+        place.refuses("6 before 4", 6, words(**cbc, start="00", names=("odd", "out")))
     os.remove(place.at("other.key"))
 
 

@@ -4,9 +4,9 @@ docs/COMPARE.md has the lines that they speak. Needs target/dist (make lib) and 
 
     tests/compare_c.py [--short] [--seed NUMBER] [--archivist COMMAND] [--show CASE]
 
-The cases are made from the seed, which is printed; without one it is another each time. Which number is expected is decided here, from
-documents 01 and 02 (number_of); which bytes, by the archivists' program, or, after a refusal, by what the destination held, and for a row
-by the zero word; whether a tag gets a yes, by how it was made, with the modules in tests/archivists, and by the archivists' program. Then it
+The cases are made from the seed, which is printed; without one it is another each time. Which number is expected is decided by tests/papers.py,
+from documents 01 and 02; which bytes, by the archivists' program, or, after a refusal, by what the destination held, and for a row by the zero
+word; whether a tag gets a yes, by how it was made, with the modules in tests/archivists, and by the archivists' program. Then it
 shows that changed answers are noticed. --show prints the request of one case and asks nothing."""
 import argparse
 import collections
@@ -23,9 +23,11 @@ import time
 
 sys.dont_write_bytecode = True
 HERE = os.path.dirname(os.path.abspath(__file__))
-sys.path.insert(0, os.path.join(HERE, "archivists"))
+sys.path[:0] = [os.path.join(HERE, "archivists"), HERE]
 import labyrinth
 import modes
+import papers
+from papers import MIXED, PUBLISHED, SIZES
 
 DIST = os.path.join(os.path.dirname(HERE), "target", "dist")
 ADAPTER = f"{shlex.quote(sys.executable)} {shlex.quote(os.path.join(HERE, 'archivists_lines.py'))}"
@@ -33,15 +35,12 @@ LIMIT = 1500  # seconds for a program
 
 BLOCKS, CBC, CTR, TAGS = ("encipher", "decipher"), ("cbc_seal", "cbc_open"), ("ctr",), ("cmac", "cmac_verify")  # and mix, mix_row
 OPERATIONS = BLOCKS + CBC + CTR + TAGS
-SIZES = [(n, l) for n in (1, 2, 4) for l in (2, 3, 4)]
 LARGE = 2**64 - 1  # SIZE_MAX
 # some are legal once cut to 8, 16 or 32 bits, or give a legal 8n or 16n modulo 2^64
 DEMANDED = (0, 3, 8, 2**32 + 1, LARGE)
 WRONG_N = (*DEMANDED, 5, 6, 7, 16, 2**8 + 1, 2**16 + 2, 2**32, 2**32 + 2, 2**32 + 4, 2**60 + 1, 2**61 + 2, 2**63 + 4, LARGE - 3)
 WRONG_L = (*(x for x in DEMANDED if x != 3), 1, 5, 6, 2**8 + 2, 2**16 + 3, 2**32 + 2, 2**32 + 3, 2**60 + 2, 2**61 + 3, 2**63 + 4)
-# document 01: mixing 0x1, 0x100 and eight bytes 01
-MIXED = {0x1: 0x0C0F1F0A0F030101, 0x100: 0x0F1F0A0F0301010C, 0x0101010101010101: 0x1A1A1A1A1A1A1A1A}
-PUBLISHED, NEUTRAL, ZERO = bytes.fromhex("0101030f0a1f0f0c"), b"\1" + bytes(7), bytes(8)
+NEUTRAL, ZERO = b"\1" + bytes(7), bytes(8)
 
 # a tag's message is the source, and the tag, made or given, the destination; n is 1; kind is how a given tag was made
 Case = collections.namedtuple("Case", "op n l key start q source destination kind", defaults=[None])
@@ -64,30 +63,11 @@ def xor(data):
 
 
 def number_of(case):
-    """Document 01, 'Operations and what they turn away', and document 02, Jobs 1 and 4: expansion's numbers, then the operation's own, the
-    first that applies. The 4 for a row that isn't eight bytes is the header's."""
     if case.op == "mix":
         return 0
     if case.op == "mix_row":
-        return 4 if len(case.row) != 8 else 13 if xor(case.row) == 0 else 0
-    if case.n not in (1, 2, 4):
-        return 1
-    if case.l not in (2, 3, 4):
-        return 2
-    if len(case.key) != 8 * case.n * case.l:
-        return 3
-    if case.op in ("cmac", "cmac_verify"):
-        return 0 if 8 <= len(case.destination) <= 16 else 11
-    block = 16 * case.n
-    if case.op in ("encipher", "decipher"):
-        if len(case.source) != block:
-            return 4
-        return 5 if len(case.destination) != block else 0
-    if len(case.start) != block:
-        return 6
-    if case.op != "ctr" and len(case.source) % block:
-        return 4
-    return 5 if len(case.destination) != len(case.source) else 0
+        return papers.mixing_through_c(case.row)
+    return papers.through_c(case.op, case.n, case.l, *map(len, (case.key, case.start, case.source, case.destination)))
 
 
 # ---- the cases
@@ -134,7 +114,7 @@ class Maker:
 
     def given(self, case, kind):
         """The case with a tag of this kind, if its key is one."""
-        if case.l not in (2, 3, 4) or len(case.key) != 8 * case.l:
+        if papers.expansion(1, case.l, len(case.key)):
             return case._replace(kind="of no key")
         key, message, length = case.key, case.source, len(case.destination)
         if kind == "of another key":
@@ -162,7 +142,7 @@ class Maker:
             source = self.wrong(source) if op in BLOCKS else source + self.rng.randrange(1, 16 * m)
         destination = 16 * m if op in BLOCKS else source
         if op in TAGS:
-            destination = self.rng.randrange(8, 17) if tag is None else tag
+            destination = self.pick(*papers.TAG_LENGTHS) if tag is None else tag
         if "destination" in damage:
             destination = self.pick(0, 1, 6, 7, 17, 18, 24, 32, 256 + destination) if op in TAGS else self.wrong(destination)
         q = self.q() if op in CTR else 0
@@ -227,7 +207,7 @@ class Maker:
         """Every length of a tag, refused ones too, made, and given in every kind, for messages of no block to three."""
         for n, l in sizes("cmac"):
             for length in range(20):
-                for op, kind in [("cmac", None), *(("cmac_verify", kind) for kind in (KINDS if 8 <= length <= 16 else KINDS[:1]))]:
+                for op, kind in [("cmac", None), *(("cmac_verify", kind) for kind in (KINDS if length in papers.TAG_LENGTHS else KINDS[:1]))]:
                     for _ in self.some(8, 1):
                         yield self.case(op, n, l, self.rng.randrange(49), tag=length, kind=kind)
 
@@ -305,7 +285,7 @@ def gaps(cases, numbers):
         need |= {(op, n, l, 2) for n, _ in sizes(op) for l in DEMANDED if l != 3}
         need |= {(op, n, l, 1) for n in DEMANDED for l in (2, 3, 4) if op not in TAGS}
     have |= {(case.op, case.l, len(case.destination), case.kind) for case in cases if case.op in TAGS}
-    need |= {("cmac_verify", l, length, kind) for l in (2, 3, 4) for length in range(8, 17) for kind in KINDS}
+    need |= {("cmac_verify", l, length, kind) for l in (2, 3, 4) for length in papers.TAG_LENGTHS for kind in KINDS}
     need |= {(op, l, length, kind) for op, kind in (("cmac", None), ("cmac_verify", "right")) for l in (2, 3, 4) for length in range(20)}
     rows = {(case.row, number) for case, number in zip(cases, numbers) if case.op == "mix_row"}
     have |= {("mix_row", len(row), number) for row, number in rows} | {("mix_row", row.hex(), number) for row, number in rows}

@@ -2,13 +2,14 @@
 """Writes what a program of ours reads and must print, made from the archivists' program and vectors alone, and for refusals and
 turns from the papers' numbers.
 
-    tests/expected.py --all DIR     for each program NAME its input, if it has one, to DIR/NAME.stdin and its output to DIR/NAME.stdout
-    tests/expected.py --list        NAME and the count of its cases, a line each
+    tests/expected.py --all DIR     for each program NAME its input to DIR/NAME.stdin and its output to DIR/NAME.stdout; the same for each
+                                    kind of its cases, by its place PLACE among them from 0 on, to DIR/NAME.PLACE.stdin and .stdout, and
+                                    the input with one bit of the last case altered to DIR/NAME.PLACE.altered
+    tests/expected.py --list        for each kind of cases a line: NAME, PLACE, the count of the cases, the kind's name
 """
 import functools
 import hashlib
 import json
-import operator
 import os
 import sys
 
@@ -17,28 +18,34 @@ sys.path.insert(0, os.path.join(os.path.dirname(os.path.abspath(__file__)), "arc
 import archivists_rows
 import labyrinth
 import modes
+import papers
+
+# ---- what the article publishes, and the field's product
 
 
-def print_tables():
-    """A line for each byte: the byte, S, inverse S, the merged word, the mixed word."""
+def tables():
+    """For each byte: S, inverse S, the merged word, the mixed word."""
     for b in range(256):
         merged = labyrinth.TL[labyrinth.S[b]]
-        yield f"{b:02x} {labyrinth.S[b]:02x} {labyrinth.S_INV[b]:02x} {merged:016x} {labyrinth.cmbn_poly(b):016x}\n"
+        yield bytes([b]), f"{b:02x} {labyrinth.S[b]:02x} {labyrinth.S_INV[b]:02x} {merged:016x} {labyrinth.cmbn_poly(b):016x}"
 
 
 # the turns that document 02 names, by their multiplier
 TURNS = {0x1F: 5, 0x80: 8, 0x00: 0}
 
 
-def products():
-    """Those turns; then a line for each multiplier, with each byte's product by it, and the turns, as many as the multiplier has bits."""
-    for b, turns in TURNS.items():
-        yield f"turns {b:02x} {turns}\n"
-    for b in range(256):
-        for a in range(256):
-            before, behind = "" if a else f"{b:02x}", "\n" if a == 255 else ""
-            yield f"{before} {labyrinth.gf_mul(a, b):02x}{b.bit_length()}{behind}"
+def turns():
+    for b, count in TURNS.items():
+        yield bytes([b]), f"{b:02x} {count}"
 
+
+def products():
+    """For each multiplier: each byte's product by it, and the turns, as many as the multiplier has bits."""
+    for b in range(256):
+        yield bytes([b]), f"{b:02x}" + "".join(f" {labyrinth.gf_mul(a, b):02x}{b.bit_length()}" for a in range(256))
+
+
+# ---- rows
 
 LARGE = (1 << 64) - 1
 
@@ -72,46 +79,47 @@ def rows_to_invert():
     return [*ROWS, *(row for row, _ in random_rows())]
 
 
-def row_vectors_input():
-    """Cases of 17 bytes: the kind (0 mixes, 1 makes a table, 2 multiplies, 3 inverts), the row, and the word, the count of the buffer's words,
-    the other row or 0, lowest byte first."""
-    for kind, cases in enumerate((rows_to_mix(), rows_to_tabulate())):
-        for row, more in cases:
-            yield bytes([kind]) + row + more.to_bytes(8, "little")
-    for g, h in rows_to_multiply():
-        yield b"\2" + g + h
-    for row in rows_to_invert():
-        yield b"\3" + row + bytes(8)
-
-
-def refused(row):
-    return functools.reduce(operator.xor, row) == 0
-
-
 # the published row's inverse, as it was given with document 02's Job 5
 PUBLISHED_INVERSE = bytes.fromhex("35C0C7A99EC62EF3")
 
 
-def row_vectors():
-    """Document 02, Job 4: 13 for a row that XORs to zero, and the zero word, or the buffer as it was; then 5 for a buffer that isn't 256 words.
-    Job 5: products, and inverse rows with their products, or 13 and the zero row."""
+def mix():
+    """Document 02, Job 4: 13 for a row that XORs to zero, and the zero word."""
     for row, word in rows_to_mix():
-        yield f"mix {13 if refused(row) else 0} {0 if refused(row) else archivists_rows.mixed(row, word):016x}\n"
+        number = papers.mixing(row)
+        yield row + word.to_bytes(8, "little"), f"{number} {0 if number else archivists_rows.mixed(row, word):016x}"
+
+
+def table():
+    """13 for such a row, then 5 for a buffer that isn't 256 words; the buffer is then as it was."""
     for row, room in rows_to_tabulate():
-        number = 13 if refused(row) else 5 if room != 256 else 0
+        number = papers.table(row, room)
         before = (0x5A5A5A5A5A5A0000 + i for i in range(room))
         made = before if number else (archivists_rows.mixed(row, labyrinth.S[b]) for b in range(256))
-        yield f"table {number}" + "".join(f" {word:016x}" for word in made) + "\n"
+        yield row + room.to_bytes(8, "little"), str(number) + "".join(f" {word:016x}" for word in made)
+
+
+def product():
+    """Job 5: products."""
     for g, h in rows_to_multiply():
-        yield f"product {archivists_rows.product(g, h).hex()}\n"
+        yield g + h, archivists_rows.product(g, h).hex()
+
+
+def inverse():
+    """Inverse rows with their products, or 13 and the zero row."""
     for row in rows_to_invert():
-        inverse = archivists_rows.inverse(row)
-        if (inverse is None) != refused(row) or (row == ROWS[1] and inverse != PUBLISHED_INVERSE):
-            raise SystemExit(f"expected.py: the inverse of {row.hex()} is {inverse and inverse.hex()}")
-        inverse = inverse or bytes(8)
-        yield f"inverse {13 if refused(row) else 0} {inverse.hex()} {archivists_rows.product(row, inverse).hex()}\n"
+        found_row = archivists_rows.inverse(row)
+        number = papers.mixing(row)
+        if (found_row is None) != (number != 0) or (row == ROWS[1] and found_row != PUBLISHED_INVERSE):
+            raise SystemExit(f"expected.py: the inverse of {row.hex()} is {found_row and found_row.hex()}")
+        made = found_row or bytes(8)
+        yield row, f"{number} {made.hex()} {archivists_rows.product(row, made).hex()}"
 
 
+# ---- operations under a key
+
+
+@functools.cache
 def found(kind, count):
     path = os.path.join(os.path.dirname(os.path.abspath(__file__)), "archivists", "vectors.json")
     with open(path) as file:
@@ -140,40 +148,6 @@ def more_tags():
             for taglen in range(8, 17):
                 tag = modes.cmac(labyrinth.Labyrinth(1, key), message, taglen)
                 yield {"n": 1, "l": l, "key": key.hex(), "msg": message.hex(), "taglen": taglen, "tag": tag.hex()}
-
-
-def vectors_input():
-    """Cases of a head (kind, n, l, q in 8 bytes or for CMAC the tag's length, the source's length in 2, lowest byte first), the key, a run's
-    start block or for CMAC the tag, the source. A block's source is the block to encipher and the block to decipher."""
-    def case(kind, v, q, start, source):
-        head = bytes([kind, v["n"], v["l"]]) + q.to_bytes(8, "little") + (len(source) // 2).to_bytes(2, "little")
-        return head + bytes.fromhex(v["key"] + start + source)
-
-    for v in found("block", 225):
-        yield case(0, v, 0, "", v["pt"] + v["ct"])
-    for v in found("cbc", 72):
-        yield case(1, v, 0, v["iv"], v["pt"])
-    for v in [*found("ctr", 360), *far_runs()]:
-        yield case(2, v, int(v["q"], 16), v["start"], v["pt"])
-    for v in [*found("cmac", 40), *more_tags()]:
-        yield case(3, v, v["taglen"], v["tag"], v["msg"])
-
-
-def vectors():
-    """For each block the expansion with all 32 words, then both engines enciphering and deciphering; each run sealed and opened; each tag
-    made, verified (number 0 and yes), and verified with each bit flipped (number 0 and no)."""
-    for v in found("block", 225):
-        yield (
-            f"expand 0 {v['expanded'].ljust(512, '0')}\n"
-            f"encipher table 0 {v['ct']}\nencipher matrix 0 {v['ct']}\n"
-            f"decipher table 0 {v['pt']}\ndecipher matrix 0 {v['pt']}\n"
-        )
-    for v in found("cbc", 72):
-        yield f"cbc seal 0 {v['ct']}\ncbc open 0 {v['pt']}\n"
-    for v in [*found("ctr", 360), *far_runs()]:
-        yield f"ctr seal 0 {v['ct']}\nctr open 0 {v['pt']}\n"
-    for v in [*found("cmac", 40), *more_tags()]:
-        yield f"cmac make 0 {v['tag']}\ncmac verify 01\ncmac flipped {'00' * 8 * v['taglen']}\n"
 
 
 # document 01's operations: expansion of n, l and a key's length; block operations under a key made by hand, with the lengths of the
@@ -205,56 +179,112 @@ TAGS = [
     (1, 16, 7), (1, 16, 17), (1, 0, 0), (1, 0, 1), (1, 32, 32), (1, 15, 255),
     (1, 0, 8), (1, 1, 8), (1, 15, 16), (1, 16, 8), (1, 16, 16), (1, 17, 15), (1, 32, 9), (1, 255, 12),
 ]
-BLOCK_OPERATIONS = ["encipher table", "encipher matrix", "decipher table", "decipher matrix"]
-RUN_OPERATIONS = ["cbc seal", "cbc open", "ctr"]
-TAG_OPERATIONS = ["make", "verify"]
+
+# what a destination holds before, and what keys, start blocks, sources and messages are of where only their lengths are told
+DESTINATION, SOURCE = b"\x5a", b"\xa5"
 
 
-def refusals_input():
-    """Cases of 23 bytes: the operation (0 expands), n and l or 0 in 8 bytes each, three lengths in 2 bytes each, lowest byte first."""
-    def case(op, n, l, *lengths):
-        return bytes([op]) + b"".join(x.to_bytes(8, "little") for x in (n, l)) + b"".join(x.to_bytes(2, "little") for x in lengths)
-
-    for n, l, key in EXPANSIONS:
-        yield case(0, n, l, key, 0, 0)
-    for op in range(4):
-        for n, source, destination in BLOCKS:
-            yield case(1 + op, n, 0, source, destination, 0)
-    for op in range(3):
-        for n, start, source, destination in RUNS:
-            yield case(5 + op, n, 0, start, source, destination)
-    for op in range(2):
-        for n, message, tag in TAGS:
-            yield case(8 + op, n, 0, 0, message, tag)
+def given(n, l, q=0, key=b"", start=b"", source=b"", destination=0):
+    """n, l (0 for a key made by hand) and q in 8 bytes each; four lengths in 2 bytes each, lowest byte first; the key, the start block or
+    the tag, the source."""
+    numbers = b"".join(x.to_bytes(8, "little") for x in (n, l, q))
+    lengths = b"".join(x.to_bytes(2, "little") for x in (len(key), len(start), len(source), destination))
+    return numbers + lengths + key + start + source
 
 
-def refusals():
-    """The number by the papers' order of checks; of a refusal, that the returned key is all zeros or the destination as it was; a tag of
-    bytes alike is no message's, so verifying says no."""
-    for n, l, key in EXPANSIONS:
-        number = 1 if n not in (1, 2, 4) else 2 if l not in (2, 3, 4) else 3 if key != 8 * n * l else 0
-        yield f"expand {number} {'zeros' if number else 'made'}\n"
-    for op in BLOCK_OPERATIONS:
-        for n, source, destination in BLOCKS:
-            number = 1 if n not in (1, 2, 4) else 4 if source != 16 * n else 5 if destination != 16 * n else 0
-            yield f"{op} {number} {'same' if number else 'made'}\n"
-    for op in RUN_OPERATIONS:
-        for n, start, source, destination in RUNS:
-            uneven = op != "ctr" and source % (16 * n or 1)
-            number = 1 if n not in (1, 2, 4) else 6 if start != 16 * n else 4 if uneven else 5 if destination != source else 0
-            yield f"{op} {number} {'same' if number else 'made' if destination else 'empty'}\n"
-    for op in TAG_OPERATIONS:
-        for n, message, tag in TAGS:
-            number = 1 if n not in (1, 2, 4) else 12 if n != 1 else 11 if not 8 <= tag <= 16 else 0
-            yield f"cmac {op} {number} {'no' if op == 'verify' else 'same' if number else 'made'}\n"
+def given_vector(v, source, destination, q=0, start=""):
+    return given(v["n"], v["l"], q, bytes.fromhex(v["key"]), bytes.fromhex(start), bytes.fromhex(source), destination)
 
+
+def by_hand(n):
+    """The archivists' cipher under a key made by hand, of words alike."""
+    cipher = labyrinth.Labyrinth(n, bytes(16 * n))
+    cipher.k = [[0x0123456789ABCDEF] * n] * 8
+    cipher.wk_e, cipher.wk_d = labyrinth.working_key_encipher(cipher.k), labyrinth.working_key_decipher(cipher.k)
+    return cipher
+
+
+def answered(number, made, destination):
+    """The number and what the destination has then: what was made, or what it had."""
+    return f"{number} {(DESTINATION * destination if number else made()).hex()}"
+
+
+def expand():
+    """The number, and n and all 32 words of the key, of a refusal 0 and words 0."""
+    def line(number, n, expanded):
+        words = (int.from_bytes(expanded[at : at + 8], "little") for at in range(0, 256, 8))
+        return f"{number} {n}" + "".join(f" {word:016x}" for word in words)
+
+    for n, l, length in EXPANSIONS:
+        number = papers.expansion(n, l, length)
+        key = SOURCE * length
+        yield given(n, l, key=key), line(number, 0, b"") if number else line(0, n, labyrinth.Labyrinth(n, key).expanded_key_bytes())
+    for v in found("block", 225):
+        yield given_vector(v, "", 0), line(0, v["n"], bytes.fromhex(v["expanded"]))
+
+
+def block(operation, source, made):
+    """By either engine; the operation is the archivists', source and made are names in a vector."""
+    for n, length, destination in BLOCKS:
+        number = papers.block(n, length, destination)
+        text = SOURCE * length
+        yield given(n, 0, source=text, destination=destination), answered(number, lambda: operation(by_hand(n), text), destination)
+    for v in found("block", 225):
+        yield given_vector(v, v[source], 16 * v["n"]), f"0 {v[made]}"
+
+
+encipher = functools.partial(block, labyrinth.Labyrinth.encrypt_block, "pt", "ct")
+decipher = functools.partial(block, labyrinth.Labyrinth.decrypt_block, "ct", "pt")
+
+
+def refused_runs(run, number_of):
+    """number_of is the papers' number of such a run."""
+    for n, first, length, destination in RUNS:
+        number = number_of(n, first, length, destination)
+        start, text = SOURCE * first, SOURCE * length
+        case = given(n, 0, start=start, source=text, destination=destination)
+        yield case, answered(number, lambda: run(by_hand(n), start, text), destination)
+
+
+def cbc(run, source, made):
+    yield from refused_runs(run, papers.cbc)
+    for v in found("cbc", 72):
+        yield given_vector(v, v[source], len(v[made]) // 2, start=v["iv"]), f"0 {v[made]}"
+
+
+def ctr():
+    yield from refused_runs(lambda cipher, start, text: modes.ctr_crypt(cipher, start, 0, text), papers.ctr)
+    for v in [*found("ctr", 360), *far_runs()]:
+        for source, made in (("pt", "ct"), ("ct", "pt")):
+            yield given_vector(v, v[source], len(v[made]) // 2, int(v["q"], 16), v["start"]), f"0 {v[made]}"
+
+
+def tag_vectors():
+    return [*found("cmac", 40), *more_tags()]
+
+
+def make():
+    for n, length, tag in TAGS:
+        message = SOURCE * length
+        made = answered(papers.tag(n, tag), lambda: modes.cmac(by_hand(n), message, tag), tag)
+        yield given(n, 0, source=message, destination=tag), made
+    for v in tag_vectors():
+        yield given_vector(v, v["msg"], v["taglen"]), f"0 {v['tag']}"
+
+
+def verify():
+    """The number in a digit, and 1 for yes or 0 for no, of a tag and then of it with each of its first 128 bits flipped in turn. A refusal gets a
+    no, and so does a tag of bytes alike."""
+    for n, length, tag in TAGS:
+        answer = f"{papers.tag(n, tag):x}0"
+        yield given(n, 0, start=DESTINATION * tag, source=SOURCE * length), f"{answer} {answer * min(8 * tag, 128)}"
+    for v in tag_vectors():
+        yield given_vector(v, v["msg"], 0, start=v["tag"]), f"01 {'00' * 8 * v['taglen']}"
+
+
+# ---- the tape
 
 # steps of a tape: (state by hand (n, keyed, ended) or None for what the step before left, room, rest)
-MIX_WORD = bytes.fromhex("050100000000000000")
-
-
-def tape_key(n, l, key):
-    return bytes([1, n, l]) + key.ljust(128, b"\x00")
 
 
 def tape_cases():
@@ -266,11 +296,11 @@ def tape_cases():
     # 5 first: fresh, ended and with an empty rest
     for room in (0, 1, 64, 66, 255):
         for state in (fresh, (1, 1, 0), (1, 1, 1)):
-            for rest in (b"", MIX_WORD, b"\x7f"):
+            for rest in (b"", papers.MIX, b"\x7f"):
                 yield state, room, rest
     # the end of a tape, from each kind of state
     for state in (fresh, (1, 1, 0), (3, 0, 0), (3, 1, 1), (1, 0, 1)):
-        for rest in (b"", b"\x00", b"\x00\x05", MIX_WORD):
+        for rest in (b"", b"\x00", b"\x00\x05", papers.MIX):
             yield state, 65, rest
     # an empty rest in more states: 8, and nothing in an ended one
     for state in ((3, 1, 0), (0, 1, 0), (2, 1, 0), (4, 0, 0), (8, 1, 0), (255, 1, 0), (0, 0, 1), (1, 1, 1), (255, 1, 1)):
@@ -280,11 +310,11 @@ def tape_cases():
         for rest in (enciphers, deciphers, b"\x03" + b"\x01" * 64, enciphers[:64]):
             yield state, 65, rest
     # commands one after another, with more behind; a refused 01 keeps the old key
-    yield fresh, 65, tape_key(1, 2, key) + enciphers
+    yield fresh, 65, papers.set_key(1, 2, key) + enciphers
     yield None, 65, enciphers + deciphers
-    yield None, 65, tape_key(3, 2, b"")
-    yield None, 65, tape_key(1, 5, b"")
-    yield None, 65, tape_key(1, 2, key + b"\x01")
+    yield None, 65, papers.set_key(3, 2, b"")
+    yield None, 65, papers.set_key(1, 5, b"")
+    yield None, 65, papers.set_key(1, 2, key + b"\x01")
     yield None, 65, deciphers
     yield None, 65, enciphers[:17] + b"\x01".rjust(48, b"\x00")
     yield None, 64, enciphers
@@ -295,71 +325,35 @@ def tape_cases():
     yield fresh, 64, b""
     yield None, 65, b""
     yield None, 65, b""
-    yield None, 65, MIX_WORD
+    yield None, 65, papers.MIX
     yield None, 66, b""
     # the same under a key that was set, and after a refusal
-    yield fresh, 65, tape_key(1, 2, key)
+    yield fresh, 65, papers.set_key(1, 2, key)
     yield None, 65, enciphers
-    yield None, 65, tape_key(3, 2, b"")
+    yield None, 65, papers.set_key(3, 2, b"")
     yield None, 65, b""
     yield None, 65, enciphers
     yield None, 65, b""
     # an empty rest after 00 and an unknown command gets no 8, after a command cut short no second one
-    for rest in (b"\x00", b"\x7f", MIX_WORD[:8]):
+    for rest in (b"\x00", b"\x7f", papers.MIX[:8]):
         yield fresh, 65, rest
         yield None, 65, b""
 
 
-def tape_steps_input():
-    """Cases of a head of 6 bytes (0 for a state by hand; n; the marks; the room; the rest's length in 2, lowest first) and the rest."""
+def step():
+    """Number, bytes taken, bytes written, n and the marks of the next state, and the answer buffer over bytes AA. A case is a head of 4 bytes
+    (0 for a state by hand; n; the marks; the room) and the rest."""
+    left = papers.FRESH
     for state, room, rest in tape_cases():
         n, keyed, ended = state or (0, 0, 0)
-        yield bytes([0 if state else 1, n, keyed + 2 * ended, room]) + len(rest).to_bytes(2, "little") + rest
-
-
-def tape_step(state, room, rest):
-    """Document 01's step, as the request 'A tape copied short' alters it: number, bytes taken, answer, next state; a state is n, the two
-    marks and the archivists' cipher."""
-    n, keyed, ended, cipher = state
-    stop = (n, keyed, 1, cipher)
-    if room != 65:
-        return 5, 0, b"", state
-    if ended:
-        return 0, 0, b"", state
-    if not rest:
-        return 8, 0, b"\x08", stop
-    command = rest[0]
-    if command == 0:
-        return 0, 1, b"", stop
-    if command not in (1, 3, 4, 5):
-        return 7, 1, b"\x07", stop
-    width = {1: 131, 3: 65, 4: 65, 5: 9}[command]
-    if len(rest) < width:
-        return 8, len(rest), b"\x08", stop
-    if command == 5:
-        mixed = labyrinth.cmbn_poly(int.from_bytes(rest[1:9], "little"))
-        return 0, 9, b"\x00" + mixed.to_bytes(8, "little"), state
-    if command == 1:
-        m, l, key = rest[1], rest[2], rest[3:131]
-        number = 1 if m not in (1, 2, 4) else 2 if l not in (2, 3, 4) else 10 if any(key[8 * m * l :]) else 0
-        next_state = state if number else (m, 1, 0, labyrinth.Labyrinth(m, key[: 8 * m * l]))
-        return number, 131, bytes([number]), next_state
-    number = 9 if not keyed else 1 if n not in (1, 2, 4) else 10 if any(rest[1 + 16 * n : 65]) else 0
-    if number:
-        return number, 65, bytes([number]), state
-    return 0, 65, b"\x00" + (cipher.encrypt_block if command == 3 else cipher.decrypt_block)(rest[1 : 1 + 16 * n]), state
-
-
-def tape_steps():
-    """Number, bytes taken, bytes written, n and the marks of the next state, and the answer buffer over bytes AA."""
-    left = (0, 0, 0, None)
-    for state, room, rest in tape_cases():
-        number, taken, answer, left = tape_step((*state, None) if state else left, room, rest)
+        number, taken, answer, left = papers.step(papers.State(*state) if state else left, rest, room)
         buffer = (answer + b"\xaa" * (room - len(answer))).hex()
-        yield f"{number} {taken} {len(answer)} {left[0]} {left[1]} {left[2]} {buffer}\n"
+        yield bytes([0 if state else 1, n, keyed + 2 * ended, room]) + rest, f"{number} {taken} {len(answer)} {left.n} {left.keyed} {left.ended} {buffer}"
 
 
-# name: (the maker of the input, the maker of the output, how many cases)
+# ---- the judge of rows
+
+
 def good_rows():
     """Rows whose verdict is a yes: with a no the word is left open, and tests/judge.py counts it."""
     for row in [bytes(labyrinth.G), *archivists_rows.GOOD]:
@@ -368,41 +362,81 @@ def good_rows():
         yield row
 
 
-def judge_row_input():
+def judged():
     for row in good_rows():
-        yield f"{row.hex()}\n".encode()
+        yield f"{row.hex()}\n".encode(), f"{row.hex()} yes\n"
 
 
-def judge_row():
-    for row in good_rows():
-        yield f"{row.hex()} yes\n"
+# a kind of cases of the program comparison: its name, which begins its lines, the maker of the cases and their answers, and their count; its
+# byte is its place here
+KINDS = [
+    ("tables", tables, 256),
+    ("turns", turns, 3),
+    ("products", products, 256),
+    ("mix", mix, 10032),
+    ("table", table, 32),
+    ("product", product, 1016),
+    ("inverse", inverse, 10004),
+    ("expand", expand, 252),
+    ("encipher table", encipher, 244),
+    ("encipher matrix", encipher, 244),
+    ("decipher table", decipher, 244),
+    ("decipher matrix", decipher, 244),
+    ("cbc seal", functools.partial(cbc, modes.cbc_encrypt, "pt", "ct"), 106),
+    ("cbc open", functools.partial(cbc, modes.cbc_decrypt, "ct", "pt"), 106),
+    ("ctr", ctr, 766),
+    ("cmac make", make, 308),
+    ("cmac verify", verify, 308),
+    ("step", step, 130),
+]
 
 
+def compared(place, name, maker):
+    """A kind's cases, each its byte, the length of the rest in 2 bytes, lowest first, and the rest; and the lines."""
+    for rest, answer in maker():
+        yield bytes([place]) + len(rest).to_bytes(2, "little") + rest, f"{name} {answer}\n"
+
+
+# name: for each kind its name, the maker of cases and lines, and the count
 PROGRAMS = {
-    "print_tables": (None, print_tables, 256),
-    "products": (None, products, 65539),
-    "row_vectors": (row_vectors_input, row_vectors, 21084),
-    "judge_row": (judge_row_input, judge_row, 5),
-    "vectors": (vectors_input, vectors, 946),
-    "refusals": (refusals_input, refusals, 255),
-    "tape_steps": (tape_steps_input, tape_steps, 130),
+    "comparison": [(name, functools.partial(compared, place, name, maker), count) for place, (name, maker, count) in enumerate(KINDS)],
+    "judge_row": [("rows", judged, 5)],
 }
+
+
+def altered(data):
+    """With the lowest bit altered of the last byte that ends no line."""
+    at = len(data.rstrip(b"\n")) - 1
+    return data[:at] + bytes([data[at] ^ 1]) + data[at + 1 :]
+
+
+def write(path, data):
+    with open(path, "wb") as out:
+        out.write(data)
+
+
+def input_and_output(program, name, maker, count):
+    """The input and the output of a kind."""
+    cases, lines = zip(*maker())
+    if len(cases) != count or any(line.find("\n") != len(line) - 1 for line in lines):
+        raise SystemExit(f"expected.py: {program}, {name}: {len(cases)} cases, not {count}, or not a line each")
+    return b"".join(cases), "".join(lines).encode()
 
 
 def main(words):
     if words == ["--list"]:
-        for name, (_, _, cases) in PROGRAMS.items():
-            print(name, cases)
+        for program, kinds in PROGRAMS.items():
+            for place, (name, _, count) in enumerate(kinds):
+                print(program, place, count, name)
     elif len(words) == 2 and words[0] == "--all":
-        for name, (given, printed, cases) in PROGRAMS.items():
-            output = list(printed())
-            if len(output) != cases:
-                raise SystemExit(f"expected.py: {name}: {len(output)} cases, not {cases}")
-            with open(os.path.join(words[1], name + ".stdout"), "w") as out:
-                out.write("".join(output))
-            if given:
-                with open(os.path.join(words[1], name + ".stdin"), "wb") as out:
-                    out.write(b"".join(given()))
+        for program, kinds in PROGRAMS.items():
+            path, parts = os.path.join(words[1], program), [input_and_output(program, *kind) for kind in kinds]
+            for place, (given_data, printed) in enumerate(parts):
+                write(f"{path}.{place}.stdin", given_data)
+                write(f"{path}.{place}.altered", altered(given_data))
+                write(f"{path}.{place}.stdout", printed)
+            write(f"{path}.stdin", b"".join(given_data for given_data, _ in parts))
+            write(f"{path}.stdout", b"".join(printed for _, printed in parts))
     else:
         raise SystemExit(__doc__)
 

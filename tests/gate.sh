@@ -2,7 +2,7 @@
 # The gate: rt ci once, then every other check on what it built. The last line is rt ci's own, printed again only if all passed.
 set -u
 cd "$(dirname "$0")/.." || exit 1
-for tool in rt python3 sha256sum cmp awk sort gcc g++ make nm readelf; do
+for tool in rt python3 sha256sum cmp awk sort gcc g++ make ar nm readelf; do
     command -v "$tool" >/dev/null || { echo "gate: $tool is not here"; exit 1; }
 done
 work=$(mktemp -d) || exit 1
@@ -52,6 +52,9 @@ fi
 # ---- the paper for the successor
 tests/paper.py || fail "the paper for the successor"
 tests/opener_test.py || fail "the opener and the verifier written from the paper"
+
+# ---- where rt ci's minutes went
+tests/dearest.py "$work/ci" || fail "the dearest checks and edits"
 
 [ "$failures" -eq 0 ] || { echo "gate: $failures checks failed"; exit 1; }
 echo "$last"

@@ -15,9 +15,11 @@ import sys
 sys.dont_write_bytecode = True
 HERE = os.path.dirname(os.path.abspath(__file__))
 PAPER = os.path.join(os.path.dirname(HERE), "docs", "OPENING-A-PAGE.md")
-sys.path.insert(0, os.path.join(HERE, "archivists"))
+sys.path[:0] = [os.path.join(HERE, "archivists"), HERE]
 import labyrinth as lab
 import modes
+import papers
+from papers import SIZES
 
 FENCE = re.compile(r"^```([a-z0-9-]+)\n(.*?)^```$", re.M | re.S)
 ADDED, XORED = 0x1084210842108421, 0x4444444444444444  # of delta, held to the archivists' below
@@ -231,7 +233,6 @@ def found(n, l, name):
     return [bytes.fromhex(v[part]) for part in ("key", "pt", "ct")]
 
 
-SIZES = [(n, l) for n in (1, 2, 4) for l in (2, 3, 4)]
 TRACED = {1: (2, "random-0"), 2: (3, "random-0"), 4: (4, "random-0")}
 
 
@@ -427,15 +428,17 @@ def card_tag():
 
 # ---- the tape
 
-def mixed(data):
-    return bytes(lab.word_to_bytes(lab.cmbn_poly(lab.bytes_to_word(list(data)))))
-
-
 def word_to_08():
     """The word, as bytes, of 0x0123456789ABCD00 to 0x0123456789ABCDFF whose mixed word ends in 08."""
     words = (bytes([first]) + bytes.fromhex("CDAB8967452301") for first in range(256))
-    (word,) = (word for word in words if mixed(word)[-1] == 0x08)
+    (word,) = (word for word in words if papers.mixed(word)[-1] == 0x08)
     return word
+
+
+def filled(byte, *parts):
+    """A command's parts, and the zeros behind them."""
+    zeros = papers.WIDTH[byte] - 1 - sum(len(data) for _, data in parts)
+    return [("command", bytes([byte])), *parts, *[("zeros", bytes(zeros))] * (zeros > 0)]
 
 
 def tape_commands():
@@ -444,26 +447,25 @@ def tape_commands():
     key, block, _ = found(1, l, name)
     sealed, word = lab.Labyrinth(1, key).encrypt_block(block), word_to_08()
     done = ("answer", b"\x00")
-    yield [("command", b"\x01"), ("n-and-l", bytes([1, l])), ("key", key), ("zeros", bytes(128 - len(key)))], [done]
-    yield [("command", b"\x03"), ("block", block), ("zeros", bytes(64 - len(block)))], [done, ("sealed", sealed)]
-    yield [("command", b"\x05"), ("word", word)], [done, ("mixed", mixed(word))]
-    yield [("command", b"\x00")], []
+    yield filled(0x01, ("n-and-l", bytes([1, l])), ("key", key)), [done]
+    yield filled(0x03, ("block", block)), [done, ("sealed", sealed)]
+    yield filled(0x05, ("word", word)), [done, ("mixed", papers.mixed(word))]
+    yield filled(0x00), []
 
 
 def tape():
     """The commands with their answers, a run of zeros by its length; then the answers to the whole tape, and to the tape without its 00."""
-    length, answers = 0, b""
+    whole = b""
     for given, answer in tape_commands():
         for name, data in given + answer:
             yield from [f"zeros   {len(data)}"] if name == "zeros" else byte_lines(name, data)
         yield ""
-        length += sum(len(data) for _, data in given)
-        answers += b"".join(data for _, data in answer)
-    yield f"tape {length} answers {len(answers)}"
-    yield from byte_lines("answers", answers)
-    yield ""
-    yield f"tape {length - 1} answers {len(answers) + 1}"
-    yield from byte_lines("answers", answers + b"\x08")
+        whole += b"".join(data for _, data in given)
+    for at, tape in enumerate((whole, whole[:-1])):
+        answers = b"".join(papers.answers(tape))
+        yield from [""] * at
+        yield f"tape {len(tape)} answers {len(answers)}"
+        yield from byte_lines("answers", answers)
 
 
 # ---- wrong readings: the archivists' program with a function exchanged, and put back

@@ -23,6 +23,7 @@ sys.path.insert(0, HERE)
 import make_paper_values
 import opener
 import paper
+import papers
 import verifier
 
 # SHA-256 of each program as it was written
@@ -61,7 +62,7 @@ def sealed_by_us(mode, n, l, key, start, q, page):
 
 def cases(rng):
     """mode, n, l, key, start, q and page."""
-    for n, l in paper.SIZES:
+    for n, l in papers.SIZES:
         block = 16 * n
         for count in (0, 1, 2, 3, rng.randrange(4, 9)):
             yield "cbc", n, l, rng.randbytes(8 * n * l), rng.randbytes(block), 0, rng.randbytes(count * block)
@@ -88,7 +89,7 @@ def page_by_page(rng):
 # ---- what must be noticed, and what the paper says of it
 
 def alterations(rng):
-    for n, l in paper.SIZES:
+    for n, l in papers.SIZES:
         block = 16 * n
         key, start, page = rng.randbytes(8 * n * l), rng.randbytes(block), rng.randbytes(4 * block)
         at, bit = rng.randrange(3 * block), 1 << rng.randrange(8)
@@ -128,7 +129,7 @@ def wrong_counter(rng):
         return start[:-16] + right(1, start[-16:], q, i)
 
     opener.counter_block = short
-    for n, l in paper.SIZES:
+    for n, l in papers.SIZES:
         if n > 1:
             key, start, page = rng.randbytes(8 * n * l), rng.randbytes(16 * n - 17) + b"\xff" * 17, rng.randbytes(3)
             sealed = sealed_by_us("ctr", n, l, key, start, 1, page * 9)
@@ -178,17 +179,17 @@ def other_tags(rng):
             for what, *other in others:
                 same(f"{name}, a tag of {size}, another {what}: the answers", answers(l, *other), (0, 0))
                 COUNTED["tags that get a no"] += 1
-            same(f"{name}: the answers to a tag cut short", {answers(l, key, message, whole[:count]) for count in range(8, 17)}, {(1, 1)})
+            same(f"{name}: the answers to a tag cut short", {answers(l, key, message, whole[:count]) for count in papers.TAG_LENGTHS}, {(1, 1)})
 
 
 def refused_tags(rng):
-    """Tags of other lengths than 8 to 16: both programs refuse to make and to verify them, ours with the number 11 and without a yes."""
+    """Tags of other lengths than 8 to 16: both programs refuse to make and to verify them, ours with the papers' number and without a yes."""
     for l in (2, 3, 4):
         key, message = rng.randbytes(8 * l), rng.randbytes(l)
         whole = paper.our_tag(l, key, message, 16)
         for given in (b"", whole[:7], whole + b"\x00"):
-            name = f"l {l}, a tag of {len(given)}"
-            ours = paper.our_tag(l, key, message, len(given), number=11), paper.our_answer(l, key, message, given, number=11)
+            name, number = f"l {l}, a tag of {len(given)}", papers.tag(1, len(given))
+            ours = paper.our_tag(l, key, message, len(given), number=number), paper.our_answer(l, key, message, given, number=number)
             same(f"{name}: ours", ours, (bytes(len(given)), 0))
             for call, last in ((verifier.tag, len(given)), (verifier.verify, given)):
                 with contextlib.suppress(ValueError):

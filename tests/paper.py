@@ -20,11 +20,12 @@ sys.path[:0] = [os.path.join(HERE, "archivists"), HERE]
 import labyrinth as lab
 import make_paper_values
 import modes
+import papers
+from papers import EXAMPLE, LONGEST, SIZES, WIDTH, command, set_key
 
 FENCE = re.compile(r"^```([a-z0-9-]+)\n(.*?)^```$", re.M | re.S)
 BYTE_LINE = re.compile(r"^(\S+) +((?:[0-9A-F]{2}){1,4}(?: (?:[0-9A-F]{2}){1,4}){0,3}) +: ([0-9A-F]{4})$")
 WORD_CELL = re.compile(r"^(\S+) +(0x[0-9A-F]{16}(?: 0x[0-9A-F]{16})?)$")
-SIZES = [(n, l) for n in (1, 2, 4) for l in (2, 3, 4)]
 READ = {
     "blocks": 28, "byte strings": 195, "half-blocks": 396, "block vectors": 18, "CBC runs": 3, "CTR runs": 7, "traced blocks": 3, "tags": 8,
     "flipped bits of tags and messages": 2080, "tapes": 514,
@@ -490,7 +491,7 @@ def flipped(data):
 
 def tagged(l, key, message, tag):
     """A tag by both programs; ours says yes to it, and no where a bit of the tag or of the message is altered."""
-    same("the lengths", (len(key), 8 <= len(tag) <= 16), (8 * l, True))
+    same("the lengths", (len(key), papers.tag(1, len(tag))), (8 * l, 0))
     same("theirs", tag.hex(), their("cmac", 1, key, message, len(tag)).hex())
     same("ours", tag.hex(), our_tag(l, key, message, len(tag)).hex())
     same("ours, verified", our_answer(l, key, message, tag), 1)
@@ -521,7 +522,7 @@ def cmac(text):
         same("the last part", last, modes.xor(end, one) if len(end) == 16 else modes.xor(end + b"\x80" + bytes(15 - len(end)), two))
         same("the chain", chain, (bytes(16) + their("cbc_encrypt", 1, key, bytes(16), message[: length - len(end)]))[-16:])
         same("the whole", whole, their("encrypt_block", 1, key, modes.xor(chain, last)))
-        for count in range(8, 17):
+        for count in papers.TAG_LENGTHS:
             same(f"theirs, {count} bytes", whole[:count], their("cmac", 1, key, message, count))
             same(f"ours, {count} bytes", (whole[:count], 1), (our_tag(l, key, message, count), our_answer(l, key, message, whole[:count])))
         tagged(l, key, message, tag)
@@ -562,52 +563,7 @@ def card_tag(text):
 
 # ---- tapes
 
-WIDTH = {0x00: 1, 0x01: 131, 0x03: 65, 0x04: 65, 0x05: 9}  # of a command with its operands
-LONGEST = 65536
-NUMBERS = (0, 1, 2, 4, 7, 8, 9, 10)
-
-
-def worked(tape):
-    """The answers to a tape, one after another, by section 14's rules and the archivists' functions."""
-    if len(tape) > LONGEST:
-        return [b"\x04"]
-    out, n, key = [], None, None
-    while True:
-        if not tape:
-            return [*out, b"\x08"]
-        command = tape[0]
-        if command == 0x00:
-            return out
-        if command not in WIDTH:
-            return [*out, b"\x07"]
-        if len(tape) < WIDTH[command]:
-            return [*out, b"\x08"]
-        operands, tape = tape[1 : WIDTH[command]], tape[WIDTH[command] :]
-        number, data = 0, b""
-        if command == 0x01:
-            size, l, used = operands[0], operands[1], 2 + 8 * operands[0] * operands[1]
-            number = 1 if size not in (1, 2, 4) else 2 if l not in (2, 3, 4) else 10 if any(operands[used:]) else 0
-            if number == 0:
-                n, key = size, operands[2:used]
-        elif command == 0x05:
-            data = bytes(lab.word_to_bytes(lab.cmbn_poly(lab.bytes_to_word(list(operands)))))
-        else:
-            number = 9 if key is None else 10 if any(operands[16 * n :]) else 0
-            if number == 0:
-                data = their("encrypt_block" if command == 0x03 else "decrypt_block", n, key, operands[: 16 * n])
-        out.append(bytes([number]) + data)
-
-
-def command(byte, *operands):
-    return (bytes([byte]) + b"".join(operands)).ljust(WIDTH[byte], b"\x00")
-
-
-def set_key(n, l, key=b""):
-    return command(0x01, bytes([n, l]), key)
-
-
-EXAMPLE = command(0x05, b"\x01") + command(0x03) + set_key(3, 2) + b"\x7f"
-MIX, END, WRONG = command(0x05, bytes(range(8))), b"\x00", b"\x01" * 128
+MIX, END, WRONG = command(0x05, bytes(range(8))), papers.END, b"\x01" * 128
 
 
 def fronts(tape, answers):
@@ -670,19 +626,19 @@ def tape(text):
         found.update(read)
     same("the commands", len(answers), len(COMMAND_LINES))
     same("the key and the block of section 9", (found["key"], found["block"]), (TRACED[1]["key"], TRACED[1]["block"]))
-    same("by the rules, one after another", worked(shown), answers[:-1])
+    same("by the rules, one after another", papers.answers(shown), answers[:-1])
     same("the last number and the last byte", (answers[-2][0], answers[-2][-1]), (0, 0x08))
     wanted = [(shown, b"".join(answers)), (shown[:-1], b"".join(answers) + b"\x08")]
     for (first, *lines), (one, all_answers) in zip((whole, short), wanted):
         same("the lengths", head(f"the {first}", "tape", "answers")[1:], [len(one), len(all_answers)])
         same("the answers", parts(lines, "answers"), [all_answers])
-    wanted += [(b"", b"\x08"), *fronts(shown, answers), *fronts(EXAMPLE, worked(EXAMPLE))]
+    wanted += [(b"", b"\x08"), *fronts(shown, answers), *fronts(EXAMPLE, papers.answers(EXAMPLE))]
     for one, all_answers in wanted:
-        same(f"by the rules, {len(one)} bytes", b"".join(worked(one)).hex(), all_answers.hex())
+        same(f"by the rules, {len(one)} bytes", b"".join(papers.answers(one)).hex(), all_answers.hex())
     tried = {one for one, _ in wanted} | {EXAMPLE, *ruled()}
     for one in sorted(tried):
-        same(f"ours, {len(one)} bytes", our_answers(one).hex(), b"".join(worked(one)).hex())
-    same("the numbers met", {answer[0] for one in tried for answer in worked(one)}, set(NUMBERS))
+        same(f"ours, {len(one)} bytes", our_answers(one).hex(), b"".join(papers.answers(one)).hex())
+    same("the numbers met", {answer[0] for one in tried for answer in papers.answers(one)}, set(papers.ANSWERED))
     COUNTED["tapes"] += len(tried)
 
 
@@ -766,7 +722,7 @@ def sentences():
     yield f'without line ends: "{text.rstrip()}"\n'
     yield f"It never passes 0x{255 * sum(range(1, 17)):04X}."
     yield "the five commands have {}, {}, {}, {} and {} bytes.".format(*WIDTH.values())
-    yield from (f"\n| {number} | `{number:02X}` | " for number in NUMBERS if number != 4)
+    yield from (f"\n| {number} | `{number:02X}` | " for number in papers.ANSWERED if number != 4)
     yield f"A tape has at most {LONGEST:,} bytes."
     yield f"A tape of more than {LONGEST:,} bytes is answered by the byte `04` alone"
     commands = [given for given, _ in make_paper_values.tape_commands()]
@@ -776,7 +732,7 @@ def sentences():
     yield f"to its first {length - 1} bytes, which lack the `00`."
     yield f"Each front of the tape, its first 0, 1, 2, ..., {length - 1} bytes, is answered"
     spaced = lambda data: f"`{data.hex(' ').upper()}`"
-    first, *rest = all_answers = worked(EXAMPLE)
+    first, *rest = all_answers = papers.answers(EXAMPLE)
     given = (EXAMPLE[:2], EXAMPLE[9:10], EXAMPLE[74:77], EXAMPLE[205:])
     yield "{} and seven bytes `00`; {} and 64 bytes `00`; {} and 128 bytes `00`; {}. Its answers".format(*map(spaced, given))
     yield f"Its answers are {len(b''.join(all_answers))} bytes: {spaced(first)} (0 and the mixed word), "

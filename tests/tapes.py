@@ -1,6 +1,7 @@
 #!/usr/bin/env python3
-"""Works tapes with the tape program and holds what it writes to document 01's numbers, with the 08 of a tape copied short, and to the
-archivists' vectors and program; then the tools for people on the same tapes; then shows that an altered answer is noticed."""
+"""Works tapes with the tape program and holds what it writes to answers told case by case here, from the papers and the archivists' vectors and
+program, and to those that the rules in tests/papers.py give; then the tools for people on the same tapes; then shows that an altered answer is
+noticed."""
 import importlib.machinery
 import importlib.util
 import json
@@ -15,24 +16,14 @@ HERE = os.path.dirname(os.path.abspath(__file__))
 ROOT = os.path.dirname(HERE)
 PROGRAM = os.path.join(ROOT, "target", "bin", "tape_program")
 TOOLS = os.path.join(ROOT, "tools")
-sys.path.insert(0, os.path.join(HERE, "archivists"))
+sys.path[:0] = [os.path.join(HERE, "archivists"), HERE]
 import labyrinth
+import papers
+from papers import END, LONGEST, MIX, MIX_ANSWER as MIXED, command as block, set_key as key
 
-END = b"\x00"
-MIX, MIXED = bytes.fromhex("050100000000000000"), bytes.fromhex("000101030f0a1f0f0c")
-LONGEST = 65536
-WIDTH = {1: 131, 3: 65, 4: 65, 5: 9}
 # the example, 225 vectors and one tape of all, 9 lengths, 6 of the longest, 266 cut short, 271 fronts of a tape and the tape, 6 with data
 # that end in 08, 299 refusals, 13 that end by one
 COUNT = 1098
-
-
-def key(n, l, data):
-    return bytes([1, n, l]) + data.ljust(128, b"\x00")
-
-
-def block(command, data):
-    return bytes([command]) + data.ljust(64, b"\x00")
 
 
 REFUSED_KEYS = [("n", key(3, 2, b""), 1), ("l", key(1, 5, b""), 2), ("unused", key(1, 2, b"\x01" * 17), 10)]
@@ -49,8 +40,7 @@ def vectors():
 
 
 def example():
-    tape = MIX + block(3, b"") + key(3, 2, b"") + b"\x7f"
-    return [("the example", tape, bytes.fromhex("00 01 01 03 0F 0A 1F 0F 0C 09 01 07"))]
+    return [("the example", papers.EXAMPLE, papers.EXAMPLE_ANSWERS)]
 
 
 def block_vectors():
@@ -234,15 +224,11 @@ ENDING = {
 
 
 def ending(tape):
-    """How a tape ends, by the lengths of its commands."""
+    """How a tape ends, by its last step."""
     if len(tape) > LONGEST:
         return "long"
-    at = 0
-    while at < len(tape) and tape[at] in WIDTH:
-        at += WIDTH[tape[at]]
-    if at < len(tape):
-        return "unknown" if tape[at] else "00"
-    return "in a command" if at > len(tape) else "between two"
+    *_, (number, taken, _) = papers.steps(tape)
+    return {0: "00", 7: "unknown", 8: "in a command" if taken else "between two"}[number]
 
 
 def tools_fault(tape, answer):
@@ -366,6 +352,8 @@ def main():
         wrong = difference(tape, answer)
         if wrong:
             failures.append(f"{name}: {wrong}")
+        if b"".join(papers.answers(tape)) != answer:
+            failures.append(f"{name}: the rules of tests/papers.py give another answer")
     # an altered answer is noticed: the last byte of a vector's, and one byte too many
     _, tape, answer = tapes[1]
     for altered in (answer[:-1] + bytes([answer[-1] ^ 1]), answer + b"\x00"):

@@ -10,8 +10,8 @@ use lib.Dec.{eqb}
 use lib.Bits.{bitXor, xor-zero-r}
 use lib.Count.{leadingZeros, leading-unique}
 use lib.Pow.{pow-pos, pow-mono}
-use Rattle.field.specs.Lists.{when, xorSum}
-use Rattle.field.proofs.Xor.{Digit, off, on, parity}
+use Rattle.forms.specs.Lists.{when, xorSum}
+use Rattle.forms.proofs.Xor.{Digit, off, on, parity}
 use Rattle.arithmetic.specs.BitLength.{bitLength}
 
 -- what holds where bit k is 1, and where it is 0 of the k bits below it, holds of one bit more

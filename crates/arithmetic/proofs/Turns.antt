@@ -1,12 +1,12 @@
 -- What a product's loop has made after some turns, whatever it multiplies: sh k is that times x^k, y what is left of the multiplier b.
 -- Assumes nothing.
-use mathlib.Core.Path.{_≡_, refl, ap, ap₂, _∙_}
+use mathlib.Core.Path.{_≡_, refl, ap₂, _∙_}
 use Prim.Native.Nat.{ℕ, _+_, _*_, _/_, _%_, _^_}
 use native.Mathlib.Omega.{arith}
 use lib.Bits.{bitXor}
-use Rattle.field.specs.Lists.{xorSum}
-use Rattle.field.proofs.Sums.{xorSum-next}
-use Rattle.field.proofs.Forms.{half-next, xorSum-end}
+use Rattle.forms.specs.Lists.{xorSum}
+use Rattle.forms.proofs.Sums.{xorSum-next, xorSum-end}
+use Rattle.field.proofs.TimesX.{half-next}
 use Rattle.arithmetic.specs.BitLength.{bitLength}
 use Rattle.arithmetic.proofs.BitLength.{xorSum-bits}
 

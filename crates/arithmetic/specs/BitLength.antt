@@ -2,7 +2,7 @@
 -- Assumes nothing.
 use Prim.Native.Nat.{ℕ, zero, suc, _/_, _%_, _^_}
 use lib.Dec.{eqb}
-use Rattle.field.specs.Lists.{when}
+use Rattle.forms.specs.Lists.{when}
 
 -- of the n low bits of b, bit k, counted from 0, being b / 2 ^ k % 2: one more than the place of the highest that is 1, and 0 where none is
 unfoldable pub bitLength : ℕ → ℕ → ℕ

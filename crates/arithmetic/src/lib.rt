@@ -2,23 +2,13 @@
 
 ghost use mathlib.Core.Path.{_≡_};
 ghost use Prim.Native.Nat.{_%_};
-ghost use Rattle.field.specs.Words.{byte, rotl, eachByte};
+ghost use Rattle.forms.specs.Words.{rotl, eachByte};
 ghost use Rattle.field.specs.Field.{timesX, mul};
 ghost use Rattle.field.specs.Field as spec;
 ghost use Rattle.field.specs.Mixing.{scale};
 ghost use Rattle.arithmetic.specs.BitLength.{bitLength};
 
 // ---- words
-
-// Byte i of a word; past its eight bytes, 0.
-pub fn byte_at(w: u64, i: usize) -> u8
-    ensures { λ r. ⌜ r ≡ byte w i ⌝ }
-{
-    if 8 <= i {
-        return 0;
-    }
-    ((w >> (8 * i)) % 256) as u8
-}
 
 // A word rotated left by k bits, k taken modulo 64.
 pub fn rotate_left(w: u64, k: usize) -> u64

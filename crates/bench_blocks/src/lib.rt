@@ -1,5 +1,5 @@
-// What the benchmark (bench/bench.c) times: many blocks, each by itself, under one schedule, with the tables made once; runs; tags; and
-// the merged table of a row.
+// What the benchmark (bench/bench.c) times: many blocks, each by itself, with what the block map needs prepared once; runs; tags; and the
+// merged table of a row.
 // It only states what makes it safe: the contracts of the cipher and the runs say what the bytes become.
 use labyrinth::WorkingKey;
 ghost use mathlib.Core.Path.{_≡_};
@@ -22,7 +22,7 @@ fn each_block(
     let mut at = 0usize;
     while size <= src.len() - at {
         let end = at + size;
-        cipher::apply_tables(t, s, u, n, ks, &src[at..end], &mut dst[at..end]);
+        table_cipher::map_block(t, s, u, n, ks, &src[at..end], &mut dst[at..end]);
         at = end;
     }
 }
@@ -43,14 +43,14 @@ pub extern "C" fn sigourta_blocks(
     if src.len() != dst.len() {
         return 5;
     }
-    let t = spread::spread_table(&tables::merged_table());
-    let s = tables::sbox();
-    let u = tables::sbox_inverse();
+    let t = table_cipher::eight_tables(&table_cipher::table());
+    let s = table_cipher::substitution();
+    let u = table_cipher::inverse();
     let k = WorkingKey {
         n: n,
         words: *words,
     };
-    let ks = schedule::schedule(k, back != 0);
+    let ks = table_cipher::schedule(k, back != 0);
     each_block(&t, &s, &u, n, &ks, src, dst);
     0
 }

@@ -1,13 +1,13 @@
--- Words in a buffer of bytes, the least byte first (the article's 2.1 in a buffer's bytes). No part of the article: the code's way to
--- Blocks' `words` and `bytes`.
+-- The code's own forms, which no reader has to believe: a word in a buffer of bytes, the least byte first, at any place, with or without room
+-- for it. The code's way to `words` and `bytes` of forms.
 -- Assumes nothing.
 use Prim.Native.Nat.{ℕ, _+_}
 use mathlib.Core.Bool.{Bool}
 use mathlib.Core.List.{List, _++_}
 use lib.Dec.{leb}
 use lib.ListN.{getD, length, take, drop}
-use Rattle.field.specs.Lists.{tabulate, pick, when}
-use Rattle.field.specs.Words.{byte, join}
+use Rattle.forms.specs.Lists.{tabulate, pick, when}
+use Rattle.forms.specs.Words.{byte, join}
 
 -- a word has room at a place of a buffer of so many bytes
 unfoldable pub inside : ℕ → ℕ → Bool

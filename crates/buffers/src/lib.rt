@@ -1,12 +1,22 @@
-// Words in a buffer of bytes, the least byte first. A caller that is inside the buffer pays nothing for the test: the compiler sees
-// that it holds.
+// The bytes of a word, and words in a buffer of bytes, the least byte first. A caller that is inside the buffer pays nothing for the
+// test: the compiler sees that it holds.
 ghost use mathlib.Core.Path.{_≡_};
 ghost use mathlib.Core.List.{_++_};
 ghost use Prim.Native.Nat.{_+_, _≤_, _<_};
 ghost use lib.ListN.{length, getD, take, drop};
-ghost use Rattle.field.specs.Lists.{tabulate};
-ghost use Rattle.field.specs.Words.{byte, join};
+ghost use Rattle.forms.specs.Lists.{tabulate};
+ghost use Rattle.forms.specs.Words.{byte, join};
 ghost use Rattle.buffers.specs.Words.{inside, wordAt, withWord};
+
+// Byte i of a word; past its eight bytes, 0.
+pub fn byte_at(w: u64, i: usize) -> u8
+    ensures { λ r. ⌜ r ≡ byte w i ⌝ }
+{
+    if 8 <= i {
+        return 0;
+    }
+    ((w >> (8 * i)) % 256) as u8
+}
 
 // A byte as a word.
 fn wide(b: u8) -> u64
@@ -17,7 +27,7 @@ fn wide(b: u8) -> u64
 }
 
 // Whether a word has room at a place of a buffer of so many bytes.
-fn has_room(at: usize, size: usize) -> bool
+fn is_inside(at: usize, size: usize) -> bool
     ensures { λ r. ⌜ r ≡ inside at size ⌝ }
 {
     8 <= size && at <= size - 8
@@ -41,21 +51,21 @@ fn store_inside(d: &mut [u8], at: usize, w: u64)
     requires { ⌜ at + 8 ≤ length (now d) ⌝ }
     ensures { λ _. ⌜ now (d .exit) ≡ take at (now (d .entry)) ++ (tabulate 8 (byte w) ++ drop (at + 8) (now (d .entry))) ⌝ }
 {
-    d[at] = arithmetic::byte_at(w, 0);
-    d[at + 1] = arithmetic::byte_at(w, 1);
-    d[at + 2] = arithmetic::byte_at(w, 2);
-    d[at + 3] = arithmetic::byte_at(w, 3);
-    d[at + 4] = arithmetic::byte_at(w, 4);
-    d[at + 5] = arithmetic::byte_at(w, 5);
-    d[at + 6] = arithmetic::byte_at(w, 6);
-    d[at + 7] = arithmetic::byte_at(w, 7);
+    d[at] = byte_at(w, 0);
+    d[at + 1] = byte_at(w, 1);
+    d[at + 2] = byte_at(w, 2);
+    d[at + 3] = byte_at(w, 3);
+    d[at + 4] = byte_at(w, 4);
+    d[at + 5] = byte_at(w, 5);
+    d[at + 6] = byte_at(w, 6);
+    d[at + 7] = byte_at(w, 7);
 }
 
 // The word at a place; 0 if it has no room there.
 pub fn load_word(s: &[u8], at: usize) -> u64
     ensures { λ r. ⌜ r ≡ wordAt (now (s .entry)) at ⌝ }
 {
-    if has_room(at, s.len()) {
+    if is_inside(at, s.len()) {
         load_inside(s, at)
     } else {
         0
@@ -66,7 +76,7 @@ pub fn load_word(s: &[u8], at: usize) -> u64
 pub fn store_word(d: &mut [u8], at: usize, w: u64)
     ensures { λ _. ⌜ now (d .exit) ≡ withWord at w (now (d .entry)) ⌝ }
 {
-    if has_room(at, d.len()) {
+    if is_inside(at, d.len()) {
         store_inside(d, at, w)
     }
 }

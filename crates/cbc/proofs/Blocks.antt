@@ -1,13 +1,17 @@
--- A loop over whole blocks with a chain: what it keeps, and a turn of it. Sealing and opening are both such loops.
+-- A loop over whole blocks with a chain: what it keeps, and a turn of it. Sealing and opening are both such loops, a block at a time.
 -- Assumes nothing.
 use mathlib.Core.Path.{_≡_, refl, sym, ap, ap₂, _∙_}
+use mathlib.Core.Bool.{Bool, true, false}
 use mathlib.Core.List.{List, [], _++_}
 use Prim.Native.Nat.{ℕ, zero, suc, _+_, _-_, _*_, _/_, _%_, _≤_, _<_}
 use native.Mathlib.Nat.{zero-mul, suc-mul, div-add-mod'}
 use native.Mathlib.Omega.{arith}
 use lib.ListN.{length, take, drop}
 use lib.Seq.{drop-drop}
-use Rattle.modes.proofs.Parts.{part-length, part-kept, part-turn, filled}
+use Rattle.forms.proofs.Parts.{part-length, part-kept, part-turn, all-filled}
+use Rattle.modes.specs.Cbc.{cbcSeal, cbcOpen}
+use Rattle.modes.proofs.Cbc.{seal-none, seal-step, open-none, open-step}
+use Rattle.cbc.specs.Either.{made, next, blocks, chained}
 
 -- at a place in the run, with a chain: blocks of z bytes are left of the source, and what they make completes the whole
 pub record Kept (B : ℕ → List ℕ → List ℕ → List ℕ) (z : ℕ) (chain src dst : List ℕ) (at : ℕ) (whole : List ℕ) : Type 0 where
@@ -31,12 +35,12 @@ module _ (B : ℕ → List ℕ → List ℕ → List ℕ) (z : ℕ) (src whole :
       → Kept B z chain src dst 0 whole
   kept-first chain dst c m d e = record { left = length src / z; fits = c; same = d; blocks = omega (arith, div-add-mod' (length src) z); made = e }
 
-  pub kept-room : (chain dst : List ℕ) (at : ℕ) → Kept B z chain src dst at whole → at < length src → at + z ≤ length src
-  kept-room chain dst at k h = left-one (k .left) z (length src) at (k .blocks) h
+  pub kept-block : (chain dst : List ℕ) (at : ℕ) → Kept B z chain src dst at whole → at < length src → at + z ≤ length src
+  kept-block chain dst at k h = left-one (k .left) z (length src) at (k .blocks) h
 
   pub kept-last : ((c p : List ℕ) → B 0 c p ≡ []) → (chain dst : List ℕ) (at : ℕ) → 0 < z → Kept B z chain src dst at whole → length src ≤ at → dst ≡ whole
   kept-last none chain dst at p k h =
-      filled dst at (omega (arith, k .same)) (ap (λ (m : ℕ). B m chain (drop at src)) (left-none (k .left) z (length src) at p (k .blocks) h) ∙ none chain (drop at src)) (k .made)
+      all-filled dst at (omega (arith, k .same)) (ap (λ (m : ℕ). B m chain (drop at src)) (left-none (k .left) z (length src) at p (k .blocks) h) ∙ none chain (drop at src)) (k .made)
 
   -- a turn makes a block, out of the chain and the source's block, and the next chain
   module _ (out next : List ℕ → List ℕ → List ℕ) (step : (m : ℕ) (c p : List ℕ) → B (suc m) c p ≡ out c (take z p) ++ B m (next c (take z p)) (drop z p)) where
@@ -67,3 +71,19 @@ module _ (B : ℕ → List ℕ → List ℕ → List ℕ) (z : ℕ) (src whole :
                   ∙ ap (λ (x : List ℕ). take at dst ++ x) (sym (step j chain (drop at src) ∙ ap₂ (λ (a b : List ℕ). a ++ B j b (drop z (drop at src))) y′ n′ ∙ ap (λ (x : List ℕ). ys ++ B j chain′ x) on))
                   ∙ w;
             }
+
+-- ---- either way
+
+module _ (m : List ℕ → List ℕ) (z : ℕ) where
+  pub either-none : (back : Bool) (c p : List ℕ) → blocks back m z 0 c p ≡ []
+  either-none false = seal-none m z
+  either-none true = open-none m z
+
+  pub either-step : (back : Bool) (j : ℕ) (c p : List ℕ) → blocks back m z (suc j) c p ≡ made back m c (take z p) ++ blocks back m z j (next back m c (take z p)) (drop z p)
+  either-step false = seal-step m z
+  either-step true = open-step m z
+
+  pub either-run : (back : Bool) (start p : List ℕ) → blocks back m z (length p / z) start p ≡ chained back m z start p
+  unfolding cbcSeal cbcOpen
+  either-run false start p = refl
+  either-run true start p = refl

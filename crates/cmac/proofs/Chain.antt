@@ -6,7 +6,7 @@ use Prim.Native.Nat.{ℕ, zero, suc, _+_, _-_, _*_, _/_, _%_, _≤_, _<_}
 use native.Mathlib.Omega.{arith}
 use lib.ListN.{length, take, drop, replicate, length-drop}
 use lib.Seq.{take-all, drop-drop, length-take-le}
-use Rattle.modes.specs.Strings.{xorBytes}
+use Rattle.forms.specs.Strings.{xorBytes}
 use Rattle.modes.specs.Cmac.{doubled, K1, K2, blockCount, lastBlock, chain, mac}
 use Rattle.modes.proofs.Cmac.{chain-none, chain-step, front-all, mac-steps}
 
@@ -21,8 +21,8 @@ module _ (e : List ℕ → List ℕ) (src whole : List ℕ) where
   pub left-first : (c : List ℕ) → length c ≡ 16 → length src % 16 ≡ 0 → chain e (length src / 16) c src ≡ whole → Left e c src 0 whole
   left-first c l w m = record { left = length src / 16; fits = l; blocks = omega arith; made = m }
 
-  pub left-room : (c : List ℕ) (at : ℕ) → Left e c src at whole → at < length src → at + 16 ≤ length src
-  left-room c at k h = omega (arith, k .blocks)
+  pub left-block : (c : List ℕ) (at : ℕ) → Left e c src at whole → at < length src → at + 16 ≤ length src
+  left-block c at k h = omega (arith, k .blocks)
 
   pub left-last : (c : List ℕ) (at : ℕ) → Left e c src at whole → length src ≤ at → c ≡ whole
   left-last c at k h =

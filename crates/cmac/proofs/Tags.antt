@@ -8,8 +8,8 @@ use native.Mathlib.Omega.{arith}
 use borrow.Author.Tests.{ne-eqb}
 use lib.Dec.{eqb}
 use lib.ListN.{length, take, drop, drop-of-length-le}
-use Rattle.labyrinth.specs.Refusals.{outcome}
-use Rattle.modes.specs.Strings.{same}
+use Rattle.forms.specs.Refusals.{outcome}
+use Rattle.forms.specs.Strings.{same}
 use Rattle.modes.specs.Cmac.{mac, tag, valid}
 use Rattle.modes.proofs.Maps.{Keeps}
 use Rattle.modes.proofs.Cmac.{length-mac, made-valid}

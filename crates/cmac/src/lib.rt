@@ -1,16 +1,17 @@
 // CMAC (NIST SP 800-38B) over the cipher's block operation at n = 1: a message's tag made, and a given tag verified.
 //
-// The tables and the schedule are made once for a message, and lent to every block.
+// What the block map needs is prepared once for a message, and lent to every block. Each inner function is stated over the block map m
+// that it gives.
 use labyrinth::WorkingKey;
 ghost use mathlib.Core.Path.{_≡_};
-ghost use mathlib.Core.Bool.{true};
-ghost use Prim.Native.Nat.{_*_, _-_, _/_, _%_};
+ghost use mathlib.Core.List.{List};
+ghost use Prim.Native.Nat.{ℕ, _*_, _-_, _/_, _%_};
 ghost use lib.ListN.{length, replicate};
+ghost use Rattle.forms.specs.Refusals.{outcome};
+ghost use Rattle.forms.specs.Strings.{xorBytes};
 ghost use Rattle.labyrinth.specs.Cipher.{article};
 ghost use Rattle.labyrinth.specs.Keys.{E};
-ghost use Rattle.labyrinth.specs.Refusals.{outcome};
-ghost use Rattle.labyrinth.specs.Working.{lendable, tableParts, lineBytes};
-ghost use Rattle.modes.specs.Strings.{xorBytes};
+ghost use Rattle.labyrinth.specs.Lent.{Lendable, Gives};
 ghost use Rattle.modes.specs.Cmac.{blockCount, chain, mac};
 ghost use Rattle.modes.specs.Cmac.{tag as madeTag};
 ghost use Rattle.modes.specs.Refusals.{cmacRefusal};
@@ -31,29 +32,35 @@ fn front(size: usize) -> usize
 
 // The block of zeros enciphered: the standard's L.
 fn zeros_enciphered(t: &[u64], s: &[u8; 256], u: &[u8; 256], ks: &[u64; 80]) -> [u8; 16]
-    requires { ⌜ lendable (length (now t)) ≡ true ⌝ }
-    ensures { λ r. ⌜ r ≡ lineBytes (tableParts (now (s .entry)) (now (u .entry)) (now (t .entry))) 1 (now (ks .entry)) (replicate 16 0) ⌝ }
+    ghost { List ℕ → List ℕ }
+    requires { λ m. ⌜ Gives m 1 (now t) (now s) (now u) (now ks) ⌝ }
+    requires { λ m. ⌜ Lendable (now t) ⌝ }
+    ensures { λ m r. ⌜ r ≡ m (replicate 16 0) ⌝ }
 {
     let zeros = [0u8; 16];
     let mut l = [0u8; 16];
-    cipher::apply_tables(t, s, u, 1, ks, &zeros, &mut l);
+    table_cipher::map_block(t, s, u, 1, ks, &zeros, &mut l);
     l
 }
 
 // Chains a block: c becomes the XOR of c and the block, enciphered.
 fn chain_block(t: &[u64], s: &[u8; 256], u: &[u8; 256], ks: &[u64; 80], c: &mut [u8], block: &[u8])
-    requires { ⌜ (length (now c) ≡ 16) × (length (now block) ≡ 16) × (lendable (length (now t)) ≡ true) ⌝ }
-    ensures { λ _. ⌜ now (c .exit) ≡ lineBytes (tableParts (now (s .entry)) (now (u .entry)) (now (t .entry))) 1 (now (ks .entry)) (xorBytes (now (c .entry)) (now (block .entry))) ⌝ }
+    ghost { List ℕ → List ℕ }
+    requires { λ m. ⌜ Gives m 1 (now t) (now s) (now u) (now ks) ⌝ }
+    requires { λ m. ⌜ (length (now c) ≡ 16) × (length (now block) ≡ 16) × Lendable (now t) ⌝ }
+    ensures { λ m _. ⌜ now (c .exit) ≡ m (xorBytes (now (c .entry)) (now (block .entry))) ⌝ }
 {
     let mut x = [0u8; 16];
     strings::xor_to(&mut x, c, block);
-    cipher::apply_tables(t, s, u, 1, ks, &x, c);
+    table_cipher::map_block(t, s, u, 1, ks, &x, c);
 }
 
 // Chains whole blocks.
 fn chain_blocks(t: &[u64], s: &[u8; 256], u: &[u8; 256], ks: &[u64; 80], c: &mut [u8], src: &[u8])
-    requires { ⌜ (length (now c) ≡ 16) × (length (now src) % 16 ≡ 0) × (lendable (length (now t)) ≡ true) ⌝ }
-    ensures { λ _. ⌜ now (c .exit) ≡ chain (lineBytes (tableParts (now (s .entry)) (now (u .entry)) (now (t .entry))) 1 (now (ks .entry))) (length (now (src .entry)) / 16) (now (c .entry)) (now (src .entry)) ⌝ }
+    ghost { List ℕ → List ℕ }
+    requires { λ m. ⌜ Gives m 1 (now t) (now s) (now u) (now ks) ⌝ }
+    requires { λ m. ⌜ (length (now c) ≡ 16) × (length (now src) % 16 ≡ 0) × Lendable (now t) ⌝ }
+    ensures { λ m _. ⌜ now (c .exit) ≡ chain m (length (now (src .entry)) / 16) (now (c .entry)) (now (src .entry)) ⌝ }
 {
     let mut at = 0usize;
     while at < src.len() {
@@ -63,10 +70,12 @@ fn chain_blocks(t: &[u64], s: &[u8; 256], u: &[u8; 256], ks: &[u64; 80], c: &mut
     }
 }
 
-// The last block of a message's chain, with the tables lent.
+// The last block of a message's chain.
 fn last_of(t: &[u64], s: &[u8; 256], u: &[u8; 256], ks: &[u64; 80], message: &[u8]) -> [u8; 16]
-    requires { ⌜ lendable (length (now t)) ≡ true ⌝ }
-    ensures { λ r. ⌜ r ≡ mac (lineBytes (tableParts (now (s .entry)) (now (u .entry)) (now (t .entry))) 1 (now (ks .entry))) (now (message .entry)) ⌝ }
+    ghost { List ℕ → List ℕ }
+    requires { λ m. ⌜ Gives m 1 (now t) (now s) (now u) (now ks) ⌝ }
+    requires { λ m. ⌜ Lendable (now t) ⌝ }
+    ensures { λ m r. ⌜ r ≡ mac m (now (message .entry)) ⌝ }
 {
     let at = front(message.len());
     let mut c = [0u8; 16];
@@ -77,15 +86,15 @@ fn last_of(t: &[u64], s: &[u8; 256], u: &[u8; 256], ks: &[u64; 80], message: &[u
     c
 }
 
-// The last block of the chain by the published tables.
+// The last block of a message's chain under a working key.
 fn chained(k: WorkingKey, message: &[u8]) -> [u8; 16]
     requires { ⌜ k .n ≡ 1 ⌝ }
     ensures { λ r. ⌜ r ≡ mac (E article (k .n) (k .words)) (now (message .entry)) ⌝ }
 {
-    let t = tables::merged_table();
-    let s = tables::sbox();
-    let u = tables::sbox_inverse();
-    let ks = schedule::schedule(k, false);
+    let t = table_cipher::table();
+    let s = table_cipher::substitution();
+    let u = table_cipher::inverse();
+    let ks = table_cipher::schedule(k, false);
     last_of(&t, &s, &u, &ks, message)
 }
 

@@ -6,11 +6,11 @@ use Prim.Native.Nat.{ℕ, _+_, _-_, _≤_, _<_, min}
 use native.Mathlib.Omega.{arith}
 use lib.ListN.{length, take, drop, length-drop, drop-of-length-le}
 use lib.Seq.{drop-drop}
-use Rattle.labyrinth.proofs.Blocks.{Bytes}
-use Rattle.modes.specs.Strings.{xorBytes, number, string}
+use Rattle.forms.specs.Strings.{xorBytes, number, string}
+use Rattle.forms.proofs.Bytes.{Bytes}
+use Rattle.forms.proofs.Strings.{length-xorBytes}
+use Rattle.forms.proofs.Parts.{take-min, drop-min, part-length, part-turn, part-kept, all-filled}
 use Rattle.modes.specs.Ctr.{counter, ctr}
-use Rattle.modes.proofs.Strings.{length-xorBytes}
-use Rattle.modes.proofs.Parts.{take-min, drop-min, part-length, part-turn, part-kept, filled}
 use Rattle.modes.proofs.Maps.{Keeps}
 use Rattle.modes.proofs.Ctr.{ctr-counter, ctr-none, ctr-first}
 
@@ -53,4 +53,4 @@ module _ (e : List ℕ → List ℕ) (z : ℕ) where
 
   -- the end of the loop
   pub ended : (c src dst : List ℕ) (at : ℕ) {whole : List ℕ} → length src ≤ at → length dst ≡ length src → take at dst ++ ctr e z c 0 (drop at src) ≡ whole → dst ≡ whole
-  ended c src dst at h same w = filled dst at (omega arith) (ctr-none e z c 0 (drop at src) (drop-of-length-le src {i = at} h)) w
+  ended c src dst at h same w = all-filled dst at (omega arith) (ctr-none e z c 0 (drop at src) (drop-of-length-le src {i = at} h)) w

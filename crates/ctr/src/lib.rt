@@ -1,16 +1,18 @@
 // Counter mode over the cipher's block operation. Sealing and opening are the same.
 //
-// `run` makes the tables and the schedule once and lends them down.
+// What the block map needs is prepared once for a run, and lent to every block. Each inner function is stated over the block map m that
+// it gives.
 use labyrinth::WorkingKey;
 ghost use mathlib.Core.Path.{_≡_};
-ghost use mathlib.Core.Bool.{true};
-ghost use Prim.Native.Nat.{_+_, _*_, _≤_, min};
+ghost use Prim.Native.Nat.{ℕ, _+_, _*_, _≤_, min};
+ghost use mathlib.Core.List.{List};
 ghost use lib.ListN.{length};
+ghost use Rattle.forms.specs.Refusals.{outcome};
+ghost use Rattle.forms.specs.Strings.{xorBytes};
 ghost use Rattle.labyrinth.specs.Cipher.{article};
 ghost use Rattle.labyrinth.specs.Keys.{E};
-ghost use Rattle.labyrinth.specs.Refusals.{outcome};
-ghost use Rattle.labyrinth.specs.Working.{Size, lendable, tableParts, lineBytes};
-ghost use Rattle.modes.specs.Strings.{xorBytes};
+ghost use Rattle.labyrinth.specs.Working.{Size};
+ghost use Rattle.labyrinth.specs.Lent.{Lendable, Gives};
 ghost use Rattle.modes.specs.Ctr.{ctr};
 ghost use Rattle.modes.specs.Refusals.{ctrRefusal};
 
@@ -37,12 +39,14 @@ fn ctr_block(
     src: &[u8],
     dst: &mut [u8],
 )
-    requires { ⌜ Size n × (length (now counter) ≡ 16 * n) × (length (now src) ≤ 16 * n) × (length (now dst) ≡ length (now src)) × (lendable (length (now t)) ≡ true) ⌝ }
-    ensures { λ _. ⌜ now (dst .exit) ≡ xorBytes (now (src .entry)) (lineBytes (tableParts (now (s .entry)) (now (u .entry)) (now (t .entry))) n (now (ks .entry)) (now (counter .entry))) ⌝ }
+    ghost { List ℕ → List ℕ }
+    requires { λ m. ⌜ Gives m n (now t) (now s) (now u) (now ks) ⌝ }
+    requires { λ m. ⌜ Size n × (length (now counter) ≡ 16 * n) × (length (now src) ≤ 16 * n) × (length (now dst) ≡ length (now src)) × Lendable (now t) ⌝ }
+    ensures { λ m _. ⌜ now (dst .exit) ≡ xorBytes (now (src .entry)) (m (now (counter .entry))) ⌝ }
 {
     let size = counter.len();
-    let mut stream = strings::room();
-    cipher::apply_tables(t, s, u, n, ks, counter, &mut stream[..size]);
+    let mut stream = strings::zero_block();
+    table_cipher::map_block(t, s, u, n, ks, counter, &mut stream[..size]);
     strings::xor_to(dst, src, &stream[..size]);
 }
 
@@ -57,8 +61,10 @@ fn ctr_blocks(
     src: &[u8],
     dst: &mut [u8],
 )
-    requires { ⌜ Size n × (length (now counter) ≡ 16 * n) × (length (now dst) ≡ length (now src)) × (lendable (length (now t)) ≡ true) ⌝ }
-    ensures { λ _. ⌜ now (dst .exit) ≡ ctr (lineBytes (tableParts (now (s .entry)) (now (u .entry)) (now (t .entry))) n (now (ks .entry))) (16 * n) (now (counter .entry)) 0 (now (src .entry)) ⌝ }
+    ghost { List ℕ → List ℕ }
+    requires { λ m. ⌜ Gives m n (now t) (now s) (now u) (now ks) ⌝ }
+    requires { λ m. ⌜ Size n × (length (now counter) ≡ 16 * n) × (length (now dst) ≡ length (now src)) × Lendable (now t) ⌝ }
+    ensures { λ m _. ⌜ now (dst .exit) ≡ ctr m (16 * n) (now (counter .entry)) 0 (now (src .entry)) ⌝ }
 {
     let size = counter.len();
     let mut at = 0usize;
@@ -82,11 +88,13 @@ fn ctr_run(
     src: &[u8],
     dst: &mut [u8],
 )
-    requires { ⌜ Size n × (length (now start) ≡ 16 * n) × (length (now dst) ≡ length (now src)) × (lendable (length (now t)) ≡ true) ⌝ }
-    ensures { λ _. ⌜ now (dst .exit) ≡ ctr (lineBytes (tableParts (now (s .entry)) (now (u .entry)) (now (t .entry))) n (now (ks .entry))) (16 * n) (now (start .entry)) q (now (src .entry)) ⌝ }
+    ghost { List ℕ → List ℕ }
+    requires { λ m. ⌜ Gives m n (now t) (now s) (now u) (now ks) ⌝ }
+    requires { λ m. ⌜ Size n × (length (now start) ≡ 16 * n) × (length (now dst) ≡ length (now src)) × Lendable (now t) ⌝ }
+    ensures { λ m _. ⌜ now (dst .exit) ≡ ctr m (16 * n) (now (start .entry)) q (now (src .entry)) ⌝ }
 {
     let size = start.len();
-    let mut counter = strings::in_room(start);
+    let mut counter = strings::block_copy(start);
     strings::add_into(&mut counter[..size], q);
     ctr_blocks(t, s, u, n, ks, &mut counter[..size], src, dst);
 }
@@ -101,12 +109,12 @@ pub fn run(k: WorkingKey, start: &[u8], q: u64, src: &[u8], dst: &mut [u8]) -> u
     if number != 0 {
         return number;
     }
-    let t = tables::merged_table();
-    let s = tables::sbox();
-    let u = tables::sbox_inverse();
-    let ks = schedule::schedule(k, false);
-    if spread::pays(n, src.len()) {
-        let eight = spread::spread_table(&t);
+    let t = table_cipher::table();
+    let s = table_cipher::substitution();
+    let u = table_cipher::inverse();
+    let ks = table_cipher::schedule(k, false);
+    if table_cipher::pays(n, src.len()) {
+        let eight = table_cipher::eight_tables(&t);
         ctr_run(&eight, &s, &u, n, &ks, start, q, src, dst);
     } else {
         ctr_run(&t, &s, &u, n, &ks, start, q, src, dst);

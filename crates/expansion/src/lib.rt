@@ -7,15 +7,14 @@ use labyrinth::WorkingKey;
 ghost use mathlib.Core.Path.{_≡_};
 ghost use mathlib.Core.List.{List, [], _++_};
 ghost use Prim.Native.Nat.{ℕ, _+_, _-_, _*_, _≤_, _<_};
-ghost use lib.Bits.{bitXor};
 ghost use lib.ListN.{length, getD, take};
-ghost use Rattle.field.specs.Lists.{tabulate, xorSum};
+ghost use Rattle.forms.specs.Lists.{tabulate, xorSum};
+ghost use Rattle.forms.specs.Words.{words};
 ghost use Rattle.field.specs.Merged.{lookup};
-ghost use Rattle.labyrinth.specs.Blocks.{zip, words};
 ghost use Rattle.labyrinth.specs.Cipher.{article};
 ghost use Rattle.labyrinth.specs.Keys.{half, register, delta, expandedWords};
 ghost use Rattle.labyrinth.specs.Refusals.{expandRefusal, expansion, padded};
-ghost use Rattle.labyrinth.specs.Working.{Size, room};
+ghost use Rattle.labyrinth.specs.Working.{Size, fourWords};
 
 // Where word i of half-block k_j stands.
 fn place(n: usize, j: usize, i: usize) -> usize
@@ -57,7 +56,7 @@ fn xor_column(n: usize, l: usize, w: &[u64; 32], i: usize) -> u64
 // The register as it is first.
 fn first_register(n: usize, l: usize, w: &[u64; 32]) -> [u64; 4]
     requires { ⌜ Size n × (l ≤ 4) ⌝ }
-    ensures { λ r. ⌜ r ≡ room (register n l (now (w .entry))) ⌝ }
+    ensures { λ r. ⌜ r ≡ fourWords (register n l (now (w .entry))) ⌝ }
 {
     let mut g = [0u64; 4];
     let mut i = 0usize;
@@ -71,7 +70,7 @@ fn first_register(n: usize, l: usize, w: &[u64; 32]) -> [u64; 4]
 // A step of the register.
 fn step(n: usize, g: [u64; 4]) -> [u64; 4]
     requires { ⌜ n ≤ 4 ⌝ }
-    ensures { λ r. ⌜ r ≡ room (delta n (take n g)) ⌝ }
+    ensures { λ r. ⌜ r ≡ fourWords (delta n (take n g)) ⌝ }
 {
     let mut r = [0u64; 4];
     let mut i = 0usize;
@@ -85,7 +84,7 @@ fn step(n: usize, g: [u64; 4]) -> [u64; 4]
 // Half-block k_j.
 fn half_of(n: usize, w: &[u64; 32], j: usize) -> [u64; 4]
     requires { ⌜ Size n × (j < 8) ⌝ }
-    ensures { λ r. ⌜ r ≡ room (half n (now (w .entry)) j) ⌝ }
+    ensures { λ r. ⌜ r ≡ fourWords (half n (now (w .entry)) j) ⌝ }
 {
     let mut r = [0u64; 4];
     let mut i = 0usize;

@@ -9,8 +9,8 @@ use native.Mathlib.Omega.{arith}
 use lib.Arith.{lt-one}
 use lib.Bits.{bitXor, xor-zero-l, xor-lt, xor-shifted}
 use lib.Pow.{pow-pos, pow-mono, pow-add, split, shr-lt, shl-lt}
+use Rattle.forms.proofs.Xor.{Digit, off, on, digit, xors, xor-zero, additive-zero}
 use Rattle.field.specs.Field.{polyMul}
-use Rattle.field.proofs.Xor.{Digit, off, on, digit, xors, xor-zero, additive-zero}
 use Rattle.field.proofs.Remainder.{poly-xor, poly-double}
 
 -- every number has a power of two above it

@@ -3,27 +3,26 @@
 -- Assumes nothing.
 use mathlib.Core.Path.{_≡_, refl, sym, ap, ap₂, _∙_, fun-ext}
 use mathlib.Core.Bool.{Bool, true, false}
-use mathlib.Core.List.{List, [], _∷_}
+use mathlib.Core.List.{List}
 use mathlib.Core.Logic.{_≢_}
-use Prim.Native.Nat.{ℕ, zero, suc, _+_, _-_, _*_, _/_, _%_, _^_, _≤_, _<_}
+use Prim.Native.Nat.{ℕ, _+_, _-_, _*_, _%_, _<_}
 use native.Mathlib.Nat.{add-comm, mod-lt}
 use native.Mathlib.Nat as nat
 use native.Mathlib.Omega.{arith}
 use borrow.Author.Tests.{eq-eqb, ne-eqb}
 use lib.Dec.{eqb}
 use lib.ListN.{getD}
-use lib.Bits.{bitXor}
-use Rattle.field.specs.Lists.{tabulate, xorSum, pick, iterate}
-use Rattle.field.specs.Words.{byte}
+use Rattle.forms.specs.Lists.{tabulate, xorSum, pick, iterate}
+use Rattle.forms.specs.Words.{byte}
+use Rattle.forms.proofs.Sums.{pick-xor, pick-zero, xorSum-cong, additive-xorSum, xorSum-swap, xorSum-only, xorSum-square}
+use Rattle.forms.proofs.Xor.{Additive}
+use Rattle.forms.proofs.Lists.{getD-tabulate, tabulate-cong}
+use Rattle.forms.proofs.Words.{word-ext}
 use Rattle.field.specs.Field.{mul, power, shift, timesX}
 use Rattle.field.specs.Mixing.{mix, product, rowSum, scale}
 use Rattle.field.specs.Published.{row}
-use Rattle.field.proofs.Xor.{Additive}
-use Rattle.field.proofs.Lists.{getD-tabulate, tabulate-cong}
 use Rattle.field.proofs.Field.{mul-assoc, mul-comm, mul-lt, one-mul, zero-mul, mul-zero}
 use Rattle.field.proofs.Power.{square, square-xor}
-use Rattle.field.proofs.Sums.{xorSum-cong, xorSum-zero, into, xorSum-swap, xorSum-only, xorSum-square}
-use Rattle.field.proofs.Words.{byte-lt, word-ext}
 use Rattle.field.proofs.Scale.{scale-lt, byte-scale}
 use Rattle.field.proofs.Mixing.{conv, byte-mix, mix-lt, mix-mix, mix-cong}
 
@@ -31,16 +30,6 @@ square-pick : (b : Bool) (x : ℕ) → square (pick b x) ≡ pick b (square x)
 unfolding pick
 square-pick true x = refl
 square-pick false x = zero-mul 0
-
-pick-xor : (b : Bool) → Additive (pick b)
-unfolding pick
-pick-xor true x y = refl
-pick-xor false x y = refl
-
-pick-zero : (b : Bool) → pick b 0 ≡ 0
-unfolding pick
-pick-zero true = refl
-pick-zero false = refl
 
 -- the row with h j at place p j mod 8
 placed : ℕ → (ℕ → ℕ) → List ℕ
@@ -73,9 +62,9 @@ square-placed p h =
     ∙ tabulate-cong 8 (λ i. xorSum 8 (λ m. pick (eqb (2 * m % 8) i) (square (getD (placed p h) m 0)))) (λ i. xorSum 8 (λ j. pick (eqb (2 * p * j % 8) i) (square (h j))))
     (λ i l. xorSum-cong 8 (λ m. pick (eqb (2 * m % 8) i) (square (getD (placed p h) m 0))) (λ m. xorSum 8 (λ j. both i m j))
     (λ m n. ap (λ (x : ℕ). pick (eqb (2 * m % 8) i) (square x)) (getD-placed p h m n)
-    ∙ ap (pick (eqb (2 * m % 8) i)) (into square square-xor 8 (λ j. pick (eqb (p * j % 8) m) (h j))
+    ∙ ap (pick (eqb (2 * m % 8) i)) (additive-xorSum square square-xor 8 (λ j. pick (eqb (p * j % 8) m) (h j))
     ∙ xorSum-cong 8 (λ j. square (pick (eqb (p * j % 8) m) (h j))) (λ j. pick (eqb (p * j % 8) m) (square (h j))) (λ j o. square-pick (eqb (p * j % 8) m) (h j)))
-    ∙ into (pick (eqb (2 * m % 8) i)) (pick-xor (eqb (2 * m % 8) i)) 8 (λ j. pick (eqb (p * j % 8) m) (square (h j))))
+    ∙ additive-xorSum (pick (eqb (2 * m % 8) i)) (pick-xor (eqb (2 * m % 8) i)) 8 (λ j. pick (eqb (p * j % 8) m) (square (h j))))
     ∙ xorSum-swap 8 8 (both i)
     ∙ xorSum-cong 8 (λ j. xorSum 8 (λ m. both i m j)) (λ j. pick (eqb (2 * p * j % 8) i) (square (h j)))
     (λ j o. xorSum-only 8 (λ m. both i m j) (p * j % 8) (mod-lt (p * j) (omega arith)) (λ m n q. other i m j q) ∙ same i j))
@@ -117,7 +106,7 @@ placed-eight h =
     tabulate-cong 8 (λ i. xorSum 8 (λ j. pick (eqb (8 * j % 8) i) (h j))) (λ i. pick (eqb 0 i) (xorSum 8 h))
     (λ i l. xorSum-cong 8 (λ j. pick (eqb (8 * j % 8) i) (h j)) (λ j. pick (eqb 0 i) (h j))
     (λ j m. let e : 8 * j % 8 ≡ 0 = omega arith in ap (λ (x : ℕ). pick (eqb x i) (h j)) e)
-    ∙ sym (into (pick (eqb 0 i)) (pick-xor (eqb 0 i)) 8 h))
+    ∙ sym (additive-xorSum (pick (eqb 0 i)) (pick-xor (eqb 0 i)) 8 h))
 
 pub mix-single : (c w : ℕ) → mix (single c) w ≡ scale c w
 unfolding conv single pick
@@ -153,7 +142,7 @@ eighth-placed h =
     ap (λ (r : List ℕ). twofold (twofold r)) (square-placed 1 h) ∙ ap twofold (square-placed 2 (λ j. square (h j)))
     ∙ square-placed 4 (λ j. square (square (h j)))
     ∙ placed-eight (λ j. eighth (h j))
-    ∙ ap single (sym (into eighth eighth-xor 8 h))
+    ∙ ap single (sym (additive-xorSum eighth eighth-xor 8 h))
 
 eighth-power : (x : ℕ) → eighth x ≡ power x 8
 unfolding power

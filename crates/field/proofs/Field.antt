@@ -1,20 +1,20 @@
 -- The laws of the field: the product is bilinear, commutative and associative, 1 is neutral, every byte but 0 has an inverse;
 -- and it is what the polynomial product leaves when it is divided by 12D.
 -- Assumes nothing.
-use mathlib.Core.Path.{_≡_, refl, sym, ap, ap₂, _∙_, subst}
+use mathlib.Core.Path.{_≡_, refl, sym, ap, ap₂, _∙_}
 use mathlib.Core.List.{List, [], _∷_}
-use Prim.Native.Nat.{ℕ, zero, suc, _+_, _-_, _*_, _/_, _%_, _^_, _≤_, _<_}
+use Prim.Native.Nat.{ℕ, zero, suc, _+_, _-_, _*_, _/_, _%_, _^_, _<_}
 use native.Mathlib.Nat.{mod-lt, mod-mod, mod-eq-of-lt, not-suc-le-zero}
 use native.Mathlib.Omega.{arith}
-use lib.Dec.{T, eqb, ltb, ltb→lt}
+use lib.Dec.{eqb, ltb, ltb→lt}
 use lib.ListN.{getD}
-use lib.Bits.{bitXor, xor-shr, xor-mod, xor-lt}
+use lib.Bits.{bitXor, xor-shr, xor-mod}
 use lib.Pow.{field, mod-mod-pow}
-use Rattle.field.specs.Lists.{xorSum}
-use Rattle.field.specs.Field.{timesX, shift, mul, power}
-use Rattle.field.proofs.Xor.{Digit, off, on, parity, xors, xor-shl, digit-xor, digit-times, Additive, additive-zero, digit-into, by-basis}
-use Rattle.field.proofs.Tests.{all, at, agree}
-use Rattle.field.proofs.Sums.{xorSum-cong, xorSum-lt, xorSum-xor, into}
+use Rattle.forms.specs.Lists.{xorSum}
+use Rattle.forms.proofs.Xor.{Digit, off, on, parity, xors, xor-shl, digit-xor, digit-times, Additive, additive-zero, digit-into, by-basis}
+use Rattle.forms.proofs.Tests.{all, tested-at, tested-agree}
+use Rattle.forms.proofs.Sums.{xorSum-cong, xorSum-lt, xorSum-xor, additive-xorSum}
+use Rattle.field.specs.Field.{timesX, shift, mul}
 
 -- ---- times x
 
@@ -32,7 +32,7 @@ timesX-low a = ap₂ (λ (x y : ℕ). bitXor (x * 2) (y * 0x12D)) (sym (mod-mod 
 
 pub timesX-lt : (a : ℕ) → timesX a < 2 ^ 8
 timesX-lt a =
-    rw (timesX-low a ∙ agree 256 timesX (λ x. timesX x % 2 ^ 8) (unfold timesX in tt) (a % 2 ^ 8) (omega arith)) (mod-lt (timesX (a % 2 ^ 8)) (omega arith))
+    rw (timesX-low a ∙ tested-agree 256 timesX (λ x. timesX x % 2 ^ 8) (unfold timesX in tt) (a % 2 ^ 8) (omega arith)) (mod-lt (timesX (a % 2 ^ 8)) (omega arith))
 
 pub shift-lt : (a k : ℕ) → shift a k < 2 ^ 8
 unfolding shift
@@ -108,8 +108,8 @@ mul-comm a b = low² a b ∙ bytes (a % 2 ^ 8) (omega arith) (b % 2 ^ 8) (omega 
 
     basis : (i : ℕ) → i < 8 → (j : ℕ) → j < 8 → mul (2 ^ i) (2 ^ j) ≡ mul (2 ^ j) (2 ^ i)
     basis i hi =
-        agree 8 (λ j. mul (2 ^ i) (2 ^ j)) (λ j. mul (2 ^ j) (2 ^ i))
-        (at 8 (λ i. all 8 (λ j. eqb (mul (2 ^ i) (2 ^ j)) (mul (2 ^ j) (2 ^ i)))) (unfold mul xorSum shift timesX in tt) i hi)
+        tested-agree 8 (λ j. mul (2 ^ i) (2 ^ j)) (λ j. mul (2 ^ j) (2 ^ i))
+        (tested-at 8 (λ i. all 8 (λ j. eqb (mul (2 ^ i) (2 ^ j)) (mul (2 ^ j) (2 ^ i)))) (unfold mul xorSum shift timesX in tt) i hi)
 
     bytes : (a : ℕ) → a < 2 ^ 8 → (b : ℕ) → b < 2 ^ 8 → mul a b ≡ mul b a
     bytes a ha b hb =
@@ -127,7 +127,7 @@ timesX-shift a (suc k) = ap timesX (timesX-shift a k)
 timesX-mul : (a b : ℕ) → timesX (mul a b) ≡ mul (timesX a) b
 unfolding mul
 timesX-mul a b =
-    into timesX timesX-xor 8 (λ k. b / 2 ^ k % 2 * shift a k)
+    additive-xorSum timesX timesX-xor 8 (λ k. b / 2 ^ k % 2 * shift a k)
     ∙ xorSum-cong 8 (λ k. timesX (b / 2 ^ k % 2 * shift a k)) (λ k. b / 2 ^ k % 2 * shift (timesX a) k)
     (λ k l. digit-into timesX timesX-xor (parity (b / 2 ^ k)) (shift a k) ∙ ap (λ (x : ℕ). b / 2 ^ k % 2 * x) (timesX-shift a k))
 
@@ -141,7 +141,7 @@ unfolding mul
 mul-swap a b c =
     xorSum-cong 8 (λ k. c / 2 ^ k % 2 * shift (mul a b) k) (λ k. mul (c / 2 ^ k % 2 * shift a k) b)
     (λ k l. ap (λ (x : ℕ). c / 2 ^ k % 2 * x) (shift-mul a b k) ∙ sym (digit-into (λ x. mul x b) (λ x y. mul-xor-l x y b) (parity (c / 2 ^ k)) (shift a k)))
-    ∙ sym (into (λ x. mul x b) (λ x y. mul-xor-l x y b) 8 (λ k. c / 2 ^ k % 2 * shift a k))
+    ∙ sym (additive-xorSum (λ x. mul x b) (λ x y. mul-xor-l x y b) 8 (λ k. c / 2 ^ k % 2 * shift a k))
 
 pub mul-assoc : (a b c : ℕ) → mul (mul a b) c ≡ mul a (mul b c)
 mul-assoc a b c = ap (λ (x : ℕ). mul x c) (mul-comm a b) ∙ mul-swap b a c ∙ mul-comm (mul b c) a
@@ -149,7 +149,7 @@ mul-assoc a b c = ap (λ (x : ℕ). mul x c) (mul-comm a b) ∙ mul-swap b a c �
 -- ---- 1, inverses, no divisors of 0
 
 pub one-mul : (a : ℕ) → a < 2 ^ 8 → mul 1 a ≡ a
-one-mul = by-basis (mul 1) (λ x. x) (mul-xor-r 1) (λ x y. refl) 8 (agree 8 (λ k. mul 1 (2 ^ k)) (λ k. 2 ^ k) (unfold mul xorSum shift timesX in tt))
+one-mul = by-basis (mul 1) (λ x. x) (mul-xor-r 1) (λ x y. refl) 8 (tested-agree 8 (λ k. mul 1 (2 ^ k)) (λ k. 2 ^ k) (unfold mul xorSum shift timesX in tt))
 
 pub mul-one : (a : ℕ) → a < 2 ^ 8 → mul a 1 ≡ a
 mul-one a h = mul-comm a 1 ∙ one-mul a h
@@ -179,12 +179,12 @@ inverse a = getD inverses a 0
 
 pub inverse-lt : (a : ℕ) → a < 2 ^ 8 → inverse a < 2 ^ 8
 unfolding inverse inverses
-inverse-lt a h = ltb→lt (inverse a) 256 (at 256 (λ a. ltb (inverse a) 256) tt a h)
+inverse-lt a h = ltb→lt (inverse a) 256 (tested-at 256 (λ a. ltb (inverse a) 256) tt a h)
 
 pub mul-inverse : (a : ℕ) → 0 < a → a < 2 ^ 8 → mul a (inverse a) ≡ 1
 mul-inverse zero p h = absurd (not-suc-le-zero p)
 mul-inverse (suc a) p h =
-    agree 255 (λ a. mul (suc a) (inverse (suc a))) (λ a. 1) (unfold inverse inverses mul xorSum shift timesX in tt) a (omega arith)
+    tested-agree 255 (λ a. mul (suc a) (inverse (suc a))) (λ a. 1) (unfold inverse inverses mul xorSum shift timesX in tt) a (omega arith)
 
 -- every byte but 0 has an inverse
 pub has-inverse : (a : ℕ) → 0 < a → a < 2 ^ 8 → (b : ℕ) × (b < 2 ^ 8) × (mul a b ≡ 1)

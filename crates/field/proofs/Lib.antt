@@ -1,8 +1,3 @@
-pub mod Xor
-pub mod Tests
-pub mod Lists
-pub mod Sums
-pub mod Words
 pub mod Field
 pub mod Power
 pub mod Remainder
@@ -12,4 +7,4 @@ pub mod Mixing
 pub mod Eight
 pub mod Substitution
 pub mod Merged
-pub mod Forms
+pub mod TimesX

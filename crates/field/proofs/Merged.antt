@@ -1,22 +1,22 @@
 -- A table that follows the rule does what substitution and mixing do, for any row and substitution.
 -- Assumes nothing.
-use mathlib.Core.Path.{_≡_, refl, sym, ap, ap₂, _∙_}
-use mathlib.Core.List.{List, [], _∷_}
-use Prim.Native.Nat.{ℕ, zero, suc, _+_, _-_, _*_, _/_, _%_, _^_, _≤_, _<_}
+use mathlib.Core.Path.{_≡_, sym, ap, ap₂, _∙_}
+use mathlib.Core.List.{List}
+use Prim.Native.Nat.{ℕ, _+_, _-_, _*_, _/_, _%_, _^_, _≤_, _<_}
 use native.Mathlib.Nat.{div-eq-of-lt, le-trans}
 use native.Mathlib.Omega.{arith}
 use lib.ListN.{getD}
 use lib.Pow.{pow-mono}
-use Rattle.field.specs.Lists.{xorSum}
-use Rattle.field.specs.Words.{byte, join, rotl, eachByte}
+use Rattle.forms.specs.Lists.{xorSum}
+use Rattle.forms.specs.Words.{byte, rotl, eachByte}
+use Rattle.forms.proofs.Lists.{getD-tabulate}
+use Rattle.forms.proofs.Sums.{xorSum-cong, xorSum-lt, xorSum-only, additive-xorSum}
+use Rattle.forms.proofs.Words.{byte-lt, byte-xor, join-lt, byte-join, word-ext, rotl-lt, byte-rotl, OnBytes, byte-each}
 use Rattle.field.specs.Field.{mul}
 use Rattle.field.specs.Substitution.{sub}
 use Rattle.field.specs.Mixing.{LCM, mix, scale}
 use Rattle.field.specs.Merged.{entry, merged, lookup}
-use Rattle.field.proofs.Lists.{getD-tabulate}
 use Rattle.field.proofs.Field.{mul-lt, zero-mul, one-mul, mul-comm, mul-assoc}
-use Rattle.field.proofs.Sums.{xorSum-cong, xorSum-lt, xorSum-only, into}
-use Rattle.field.proofs.Words.{byte-lt, byte-xor, join-lt, byte-join, word-ext, rotl-lt, byte-rotl, OnBytes, byte-each}
 use Rattle.field.proofs.Scale.{scale-lt, byte-scale}
 use Rattle.field.proofs.Mixing.{conv, byte-mix, mix-lt}
 
@@ -34,7 +34,7 @@ unfolding conv
 mix-rotated g w =
     word-ext (mix g w) (xorSum 8 place) (mix-lt g w) (xorSum-lt 64 8 place (λ j l. rotl-lt (LCM g (byte w j)) (8 * j) (omega arith) (LCM-lt g (byte w j))))
     (λ i l. byte-mix g w i l
-    ∙ sym (into (λ x. byte x i) (byte-xor i) 8 place
+    ∙ sym (additive-xorSum (λ x. byte x i) (byte-xor i) 8 place
     ∙ xorSum-cong 8 (λ j. byte (place j) i) (λ j. mul (byte w j) (getD g ((i + 8 - j) % 8) 0))
     (λ j m. byte-rotl (LCM g (byte w j)) j i (LCM-lt g (byte w j)) (omega arith) l ∙ byte-LCM g (byte w j) ((i + 8 - j) % 8) (omega arith))))
   where

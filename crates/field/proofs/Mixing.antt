@@ -9,15 +9,15 @@ use borrow.Author.Tests.{eq-eqb, ne-eqb}
 use lib.Dec.{eqb}
 use lib.ListN.{getD}
 use lib.Bits.{bitXor, xor-lt}
-use Rattle.field.specs.Lists.{tabulate, xorSum, pick}
-use Rattle.field.specs.Words.{byte, rotl}
+use Rattle.forms.specs.Lists.{tabulate, xorSum, pick}
+use Rattle.forms.specs.Words.{byte, rotl}
+use Rattle.forms.proofs.Xor.{Additive}
+use Rattle.forms.proofs.Lists.{getD-tabulate, tabulate-cong}
+use Rattle.forms.proofs.Sums.{xorSum-cong, xorSum-lt, additive-xorSum, xorSum-xor, xorSum-swap, xorSum-only, xorSum-cycle}
+use Rattle.forms.proofs.Words.{byte-xor, join-lt, byte-join, word-ext, rotl-lt, byte-rotl}
 use Rattle.field.specs.Field.{mul}
 use Rattle.field.specs.Mixing.{element, matrix, dot, mixBy, mix, product, scale}
-use Rattle.field.proofs.Xor.{Additive}
-use Rattle.field.proofs.Lists.{getD-tabulate, tabulate-cong}
 use Rattle.field.proofs.Field.{mul-xor-l, mul-xor-r, mul-assoc, mul-comm, mul-lt}
-use Rattle.field.proofs.Sums.{xorSum-cong, xorSum-lt, into, xorSum-xor, xorSum-swap, xorSum-only, cycle}
-use Rattle.field.proofs.Words.{byte-xor, join-lt, byte-join, word-ext, rotl-lt, byte-rotl}
 use Rattle.field.proofs.Scale.{scale-lt, byte-scale}
 
 -- the cyclic product of two functions of the numbers below 8
@@ -106,7 +106,7 @@ unfolding conv
 mix-coefficients g w =
     word-ext (mix g w) (xorSum 8 place) (mix-lt g w) (xorSum-lt 64 8 place (λ k l. rotl-lt (scale (g′ k) w) (8 * k) (omega arith) (scale-lt (g′ k) w)))
     (λ i l. byte-mix g w i l ∙ conv-comm (byte w) g′ i l
-    ∙ sym (into (λ x. byte x i) (byte-xor i) 8 place
+    ∙ sym (additive-xorSum (λ x. byte x i) (byte-xor i) 8 place
     ∙ xorSum-cong 8 (λ k. byte (place k) i) (λ k. mul (g′ k) (byte w ((i + 8 - k) % 8)))
     (λ k m. byte-rotl (scale (g′ k) w) k i (scale-lt (g′ k) w) (omega arith) l ∙ byte-scale (g′ k) w ((i + 8 - k) % 8) (omega arith)
     ∙ mul-comm (byte w ((i + 8 - k) % 8)) (g′ k))))
@@ -153,7 +153,7 @@ unfolding conv
 turn x g k i hk =
     xorSum-cong 8 (λ j. mul (x ((j + 8 - k) % 8)) (g ((i + 8 - j) % 8))) (λ j. F ((8 - k) + j))
     (λ j l. ap₂ (λ (a b : ℕ). mul (x a) (g b)) (omega arith) (index i (8 - k) j l ∙ ap (λ (m : ℕ). (m % 8 + 8 - (8 - k + j) % 8) % 8) (omega arith)))
-    ∙ cycle 7 F (λ t. ap₂ (λ (a b : ℕ). mul (x a) (g b)) (omega arith) (omega arith)) (8 - k)
+    ∙ xorSum-cycle 7 F (λ t. ap₂ (λ (a b : ℕ). mul (x a) (g b)) (omega arith) (omega arith)) (8 - k)
     ∙ xorSum-cong 8 F (λ j. mul (x j) (g ((i′ + 8 - j) % 8))) (λ j l. ap₂ (λ (a b : ℕ). mul (x a) (g b)) (omega arith) (omega arith))
   where
     i′ : ℕ
@@ -179,12 +179,12 @@ mix-mix g h w =
     (λ i l. byte-mix h (mix g w) i l
     ∙ xorSum-cong 8 (λ j. mul (byte (mix g w) j) (h′ ((i + 8 - j) % 8))) (λ j. xorSum 8 (λ k. each i j k))
     (λ j m. ap (λ (x : ℕ). mul x (h′ ((i + 8 - j) % 8))) (byte-mix g w j m)
-    ∙ into (λ x. mul x (h′ ((i + 8 - j) % 8))) (λ x y. mul-xor-l x y (h′ ((i + 8 - j) % 8))) 8 (λ k. mul (byte w k) (g′ ((j + 8 - k) % 8)))
+    ∙ additive-xorSum (λ x. mul x (h′ ((i + 8 - j) % 8))) (λ x y. mul-xor-l x y (h′ ((i + 8 - j) % 8))) 8 (λ k. mul (byte w k) (g′ ((j + 8 - k) % 8)))
     ∙ xorSum-cong 8 (λ k. mul (mul (byte w k) (g′ ((j + 8 - k) % 8))) (h′ ((i + 8 - j) % 8))) (each i j)
     (λ k n. mul-assoc (byte w k) (g′ ((j + 8 - k) % 8)) (h′ ((i + 8 - j) % 8))))
     ∙ xorSum-swap 8 8 (each i)
     ∙ xorSum-cong 8 (λ k. xorSum 8 (λ j. each i j k)) (λ k. mul (byte w k) (getD (product g h) ((i + 8 - k) % 8) 0))
-    (λ k n. sym (into (mul (byte w k)) (mul-xor-r (byte w k)) 8 (λ j. mul (g′ ((j + 8 - k) % 8)) (h′ ((i + 8 - j) % 8))))
+    (λ k n. sym (additive-xorSum (mul (byte w k)) (mul-xor-r (byte w k)) 8 (λ j. mul (g′ ((j + 8 - k) % 8)) (h′ ((i + 8 - j) % 8))))
     ∙ ap (mul (byte w k)) (turn g′ h′ k i (omega arith) ∙ sym (getD-product g h ((i + 8 - k) % 8) (omega arith))))
     ∙ sym (byte-mix (product g h) w i l))
   where

@@ -4,10 +4,10 @@ use mathlib.Core.Path.{_≡_, refl, sym, ap, _∙_}
 use Prim.Native.Nat.{ℕ, zero, suc, _+_, _*_, _/_, _%_, _^_, _<_}
 use native.Mathlib.Nat.{add-zero, add-suc, pos-of-ne-zero}
 use native.Mathlib.Omega.{arith}
-use Rattle.field.specs.Lists.{xorSum, iterate}
+use Rattle.forms.specs.Lists.{xorSum, iterate}
+use Rattle.forms.proofs.Xor.{xors, Additive, by-basis}
+use Rattle.forms.proofs.Tests.{tested-agree}
 use Rattle.field.specs.Field.{mul, power, shift, timesX}
-use Rattle.field.proofs.Xor.{xors, Additive, by-basis}
-use Rattle.field.proofs.Tests.{agree}
 use Rattle.field.proofs.Field.{mul-xor-l, mul-xor-r, mul-assoc, mul-comm, mul-lt, one-mul, mul-one, inverse, mul-inverse, no-divisors}
 
 pub power-none : (a : ℕ) → power a 0 ≡ 1
@@ -78,7 +78,7 @@ pub power-256 : (a : ℕ) → a < 2 ^ 8 → power a 256 ≡ a
 power-256 a h =
     sym (squares-power 8 a h)
     ∙ by-basis (iterate 8 square) (λ x. x) (squares-xor 8) (λ x y. refl) 8
-    (agree 8 (λ k. iterate 8 square (2 ^ k)) (λ k. 2 ^ k) (unfold iterate mul xorSum shift timesX in tt)) a h
+    (tested-agree 8 (λ k. iterate 8 square (2 ^ k)) (λ k. 2 ^ k) (unfold iterate mul xorSum shift timesX in tt)) a h
 
 pub power-255 : (a : ℕ) → 0 < a → a < 2 ^ 8 → mul a (power a 254) ≡ 1
 power-255 a p h =

@@ -1,14 +1,13 @@
 -- The field's product is the remainder of the polynomials' product by 12D: that product is a multiple of 12D, XOR the field's product, which is a byte.
 -- Assumes nothing.
 use mathlib.Core.Path.{_≡_, refl, sym, ap, ap₂, _∙_}
-use Prim.Native.Nat.{ℕ, zero, suc, _+_, _-_, _*_, _/_, _%_, _^_, _≤_, _<_}
+use Prim.Native.Nat.{ℕ, zero, suc, _-_, _*_, _/_, _%_, _^_, _<_}
 use native.Mathlib.Nat.{mod-eq-of-lt, mul-one, mul-assoc, mul-comm, pow-suc}
-use native.Mathlib.Omega.{arith}
 use lib.Bits.{bitXor, xor-zero-l}
-use Rattle.field.specs.Lists.{xorSum}
+use Rattle.forms.specs.Lists.{xorSum}
+use Rattle.forms.proofs.Xor.{Digit, off, on, parity, xors, xor-shl, digit-times, Additive, digit-into}
+use Rattle.forms.proofs.Sums.{xorSum-cong, xorSum-xor, additive-xorSum}
 use Rattle.field.specs.Field.{timesX, shift, mul, polyMul}
-use Rattle.field.proofs.Xor.{Digit, off, on, parity, xors, xor-shl, digit-times, Additive, digit-into}
-use Rattle.field.proofs.Sums.{xorSum-cong, xorSum-xor, into}
 use Rattle.field.proofs.Field.{shift-lt}
 
 pub poly-xor : (n b : ℕ) → Additive (λ a. polyMul n a b)
@@ -24,7 +23,7 @@ poly-double n a b =
     xorSum-cong n (λ k. b / 2 ^ k % 2 * (a * 2 * 2 ^ k)) (λ k. b / 2 ^ k % 2 * (a * 2 ^ k) * 2)
     (λ k l. ap (λ (z : ℕ). b / 2 ^ k % 2 * z) (mul-assoc a 2 (2 ^ k) ∙ ap (λ (z : ℕ). a * z) (mul-comm 2 (2 ^ k)) ∙ sym (mul-assoc a (2 ^ k) 2))
     ∙ sym (mul-assoc (b / 2 ^ k % 2) (a * 2 ^ k) 2))
-    ∙ sym (into (λ z. z * 2) (λ x y. xor-shl x y 1) n (λ k. b / 2 ^ k % 2 * (a * 2 ^ k)))
+    ∙ sym (additive-xorSum (λ z. z * 2) (λ x y. xor-shl x y 1) n (λ k. b / 2 ^ k % 2 * (a * 2 ^ k)))
 
 poly-digit : {d : ℕ} → Digit d → polyMul 9 d 0x12D ≡ d * 0x12D
 unfolding polyMul xorSum
@@ -68,7 +67,7 @@ mul-remainder a b h = (
       ∙ digit-times (parity (b / 2 ^ k)) (polyMul 9 (quotient a k) 0x12D) (shift a k)
       ∙ ap (λ (x : ℕ). bitXor x (bit k * shift a k)) (sym (digit-into (λ x. polyMul 9 x 0x12D) (poly-xor 9 0x12D) (parity (b / 2 ^ k)) (quotient a k))))
       ∙ xorSum-xor 8 (λ k. polyMul 9 (bit k * quotient a k) 0x12D) (λ k. bit k * shift a k)
-      ∙ ap (λ (x : ℕ). bitXor x (mul a b)) (sym (into (λ x. polyMul 9 x 0x12D) (poly-xor 9 0x12D) 8 (λ k. bit k * quotient a k))),
+      ∙ ap (λ (x : ℕ). bitXor x (mul a b)) (sym (additive-xorSum (λ x. polyMul 9 x 0x12D) (poly-xor 9 0x12D) 8 (λ k. bit k * quotient a k))),
 )
   where
     bit : ℕ → ℕ

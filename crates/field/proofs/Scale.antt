@@ -6,15 +6,15 @@ use Prim.Native.Nat.{ℕ, zero, suc, _+_, _*_, _/_, _%_, _^_, _<_}
 use native.Mathlib.Numerals.{add-one}
 use native.Mathlib.Omega.{arith}
 use lib.ListN.{getD}
-use Rattle.field.specs.Lists.{tabulate, xorSum, iterate}
-use Rattle.field.specs.Words.{byte, eachByte}
+use Rattle.forms.specs.Lists.{tabulate, xorSum, iterate}
+use Rattle.forms.specs.Words.{byte, eachByte}
+use Rattle.forms.proofs.Xor.{parity, digit-into}
+use Rattle.forms.proofs.Lists.{getD-tabulate}
+use Rattle.forms.proofs.Sums.{xorSum-cong, xorSum-lt, additive-xorSum}
+use Rattle.forms.proofs.Words.{byte-xor, word-ext, each-lt, byte-each, each-each}
 use Rattle.field.specs.Field.{timesX, shift, mul}
 use Rattle.field.specs.Mixing.{scale}
-use Rattle.field.proofs.Xor.{parity, digit-into}
-use Rattle.field.proofs.Lists.{getD-tabulate}
 use Rattle.field.proofs.Field.{shift-lt, mul-lt, digit-lt}
-use Rattle.field.proofs.Sums.{xorSum-cong, xorSum-lt, into}
-use Rattle.field.proofs.Words.{byte-xor, word-ext, each-lt, byte-each, each-each}
 
 pub scale-lt : (c w : ℕ) → scale c w < 2 ^ 64
 unfolding scale
@@ -50,7 +50,7 @@ unfolding mul
 scale-bits c w =
     word-ext (scale c w) (xorSum 8 part) (scale-lt c w) (xorSum-lt 64 8 part (λ k l. digit-lt (parity (c / 2 ^ k)) (shiftEach w k) (shiftEach-lt w k)))
     (λ i l. byte-scale c w i l
-    ∙ sym (into (λ x. byte x i) (byte-xor i) 8 part
+    ∙ sym (additive-xorSum (λ x. byte x i) (byte-xor i) 8 part
     ∙ xorSum-cong 8 (λ k. byte (part k) i) (λ k. c / 2 ^ k % 2 * shift (byte w i) k)
     (λ k m. digit-into (λ x. byte x i) (byte-xor i) (parity (c / 2 ^ k)) (shiftEach w k) ∙ ap (λ (x : ℕ). c / 2 ^ k % 2 * x) (byte-shiftEach w k i l))))
   where

@@ -1,17 +1,15 @@
 -- Table 1 is one-to-one, and its inverse undoes it both ways: each by one computed test over the table.
 -- Assumes nothing.
-use mathlib.Core.Path.{_≡_, refl, sym, ap, ap₂, _∙_}
-use mathlib.Core.List.{List, [], _∷_}
-use Prim.Native.Nat.{ℕ, zero, suc, _+_, _-_, _*_, _/_, _%_, _^_, _≤_, _<_}
-use native.Mathlib.Omega.{arith}
-use lib.Dec.{T, eqb, ltb, ltb→lt}
-use lib.ListN.{getD}
-use Rattle.field.specs.Words.{eachByte}
+use mathlib.Core.Path.{_≡_, sym, ap, _∙_}
+use mathlib.Core.List.{List}
+use Prim.Native.Nat.{ℕ, _-_, _^_, _<_}
+use lib.Dec.{ltb, ltb→lt}
+use Rattle.forms.specs.Words.{eachByte}
+use Rattle.forms.proofs.Lists.{getD-tabulate}
+use Rattle.forms.proofs.Tests.{tested-at, tested-agree}
+use Rattle.forms.proofs.Words.{OnBytes, each-undo}
 use Rattle.field.specs.Substitution.{sub, subInv, invert}
 use Rattle.field.specs.Published.{table1}
-use Rattle.field.proofs.Lists.{getD-tabulate}
-use Rattle.field.proofs.Tests.{all, at, agree}
-use Rattle.field.proofs.Words.{OnBytes, each-undo}
 
 -- S and its inverse on bytes, each undoing the other
 pub record Undo (f g : ℕ → ℕ) : Type 0 where
@@ -28,10 +26,10 @@ sub-invert s y l = getD-tabulate 256 (subInv s) 0 y l
 pub table1-undo : Undo (sub table1) (subInv table1)
 unfolding sub subInv table1
 table1-undo = record {
-  there = λ x l. ltb→lt (sub table1 x) 256 (at 256 (λ x. ltb (sub table1 x) 256) tt x l);
-  back = λ y l. ltb→lt (subInv table1 y) 256 (at 256 (λ y. ltb (subInv table1 y) 256) tt y l);
-  back-there = agree 256 (λ x. subInv table1 (sub table1 x)) (λ x. x) tt;
-  there-back = agree 256 (λ y. sub table1 (subInv table1 y)) (λ y. y) tt;
+  there = λ x l. ltb→lt (sub table1 x) 256 (tested-at 256 (λ x. ltb (sub table1 x) 256) tt x l);
+  back = λ y l. ltb→lt (subInv table1 y) 256 (tested-at 256 (λ y. ltb (subInv table1 y) 256) tt y l);
+  back-there = tested-agree 256 (λ x. subInv table1 (sub table1 x)) (λ x. x) tt;
+  there-back = tested-agree 256 (λ y. sub table1 (subInv table1 y)) (λ y. y) tt;
 }
 
 -- one-to-one

@@ -3,7 +3,7 @@
 -- Assumes nothing.
 use Prim.Native.Nat.{ℕ, zero, suc, _*_, _/_, _%_, _^_}
 use lib.Bits.{bitXor}
-use Rattle.field.specs.Lists.{xorSum}
+use Rattle.forms.specs.Lists.{xorSum}
 
 -- a byte times x: one place up, and XOR 12D where that reaches x^8
 unfoldable pub timesX : ℕ → ℕ

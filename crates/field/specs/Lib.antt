@@ -1,5 +1,3 @@
-pub mod Lists
-pub mod Words
 pub mod Substitution
 pub mod Field
 pub mod Mixing

@@ -3,8 +3,8 @@
 use Prim.Native.Nat.{ℕ, _*_}
 use mathlib.Core.List.{List}
 use lib.ListN.{getD}
-use Rattle.field.specs.Lists.{tabulate, xorSum}
-use Rattle.field.specs.Words.{byte, rotl}
+use Rattle.forms.specs.Lists.{tabulate, xorSum}
+use Rattle.forms.specs.Words.{byte, rotl}
 use Rattle.field.specs.Substitution.{sub}
 use Rattle.field.specs.Mixing.{LCM}
 

@@ -5,8 +5,8 @@ use Prim.Native.Nat.{ℕ, _+_, _-_, _%_}
 use mathlib.Core.List.{List, []}
 use lib.Dec.{eqb}
 use lib.ListN.{getD}
-use Rattle.field.specs.Lists.{tabulate, xorSum, pick}
-use Rattle.field.specs.Words.{byte, join, eachByte}
+use Rattle.forms.specs.Lists.{tabulate, xorSum, pick}
+use Rattle.forms.specs.Words.{byte, join, eachByte}
 use Rattle.field.specs.Field.{mul}
 
 -- 3.8: LCM(X) = < g_7 X || .. || g_1 X || g_0 X > (the article's name; 4.3 calls it TL)

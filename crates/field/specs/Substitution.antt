@@ -1,11 +1,11 @@
 -- The substitution (the article's section 3.7). It is a list s of 256 bytes: the published one, Table 1, stands in Published.
 -- Assumes nothing.
-use Prim.Native.Nat.{ℕ, zero, suc}
+use Prim.Native.Nat.{ℕ, suc}
 use mathlib.Core.Bool.{true, false}
 use mathlib.Core.List.{List, [], _∷_}
 use lib.Dec.{eqb}
 use lib.ListN.{getD}
-use Rattle.field.specs.Lists.{tabulate}
+use Rattle.forms.specs.Lists.{tabulate}
 
 -- 3.7: S(x) stands at place x of the list
 unfoldable pub sub : List ℕ → ℕ → ℕ

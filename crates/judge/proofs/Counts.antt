@@ -1,7 +1,7 @@
 -- How many bytes are not zero, and the search for a word with eight zeros among its sixteen bytes.
 -- Assumes nothing.
 use mathlib.Core.Path.{_≡_, refl, sym, ap, _∙_, subst}
-use mathlib.Core.Bool.{true, false}
+use mathlib.Core.Bool.{true}
 use mathlib.Core.List.{List}
 use Prim.Native.Nat.{ℕ, zero, suc, _+_, _-_, _^_, _≤_, _<_}
 use native.Mathlib.Omega.{arith}
@@ -9,7 +9,6 @@ use native.Mathlib.Numerals.{add-one}
 use native.Mathlib.Decide.{ℕ-discrete}
 use lib.Dec.{eqb}
 use borrow.Author.Tests.{eqb-true, eqb-false, eq-eqb, ne-eqb}
-use Rattle.field.specs.Words.{byte}
 use Rattle.field.specs.Mixing.{dot, matrix, mixBy, mix}
 use Rattle.rows.specs.Inverse.{neutral}
 use Rattle.rows.proofs.Ring.{mix-neutral}

@@ -1,7 +1,6 @@
 -- Rows, matrices and words: what a matrix gives, and what it still gives once one row is to give 0.
 -- Assumes nothing.
 use mathlib.Core.Path.{_≡_, refl, sym, ap, ap₂, _∙_}
-use mathlib.Core.Bool.{Bool, true, false}
 use mathlib.Core.List.{List, []}
 use Prim.Native.Nat.{ℕ, _-_, _*_, _%_, _^_, _≤_, _<_}
 use native.Mathlib.Omega.{arith}
@@ -9,19 +8,19 @@ use borrow.Author.Tests.{eq-eqb, ne-eqb, lt-ltb, le-ltb}
 use lib.Dec.{eqb}
 use lib.ListN.{getD, replicate, getD-replicate}
 use lib.Bits.{bitXor, xor-self, xor-zero-l, xor-zero-r}
-use Rattle.field.specs.Lists.{xorSum, pick}
-use Rattle.field.specs.Words.{byte, join}
+use Rattle.forms.specs.Lists.{xorSum, pick}
+use Rattle.forms.specs.Words.{byte, join}
+use Rattle.forms.proofs.Sums.{pick-lt, xorSum-cong, additive-xorSum, xorSum-zero, xorSum-xor, xorSum-only}
+use Rattle.forms.proofs.Xor.{additive-zero}
+use Rattle.forms.proofs.Tests.{all, tested-at, tested-agree}
+use Rattle.forms.proofs.Lists.{getD-tabulate, tabulate-cong}
+use Rattle.forms.proofs.Words.{byte-xor, byte-zero, byte-join, join-cong}
+use Rattle.buffers.specs.Words.{wordAt}
 use Rattle.field.specs.Field.{mul}
 use Rattle.field.specs.Mixing.{dot, mixBy, scale}
-use Rattle.field.proofs.Xor.{additive-zero}
-use Rattle.field.proofs.Tests.{all, at, agree}
-use Rattle.field.proofs.Lists.{getD-tabulate, tabulate-cong}
-use Rattle.field.proofs.Sums.{xorSum-cong, into, xorSum-zero, xorSum-xor, xorSum-only}
-use Rattle.field.proofs.Words.{byte-xor, byte-zero, byte-join, join-cong}
 use Rattle.field.proofs.Field.{mul-xor-l, mul-xor-r, mul-comm, mul-assoc, mul-one, one-mul, zero-mul, mul-zero}
 use Rattle.field.proofs.Scale.{byte-scale}
 use Rattle.field.proofs.Mixing.{dot-lt, byte-mixBy, dot-xor, mixBy-xor}
-use Rattle.buffers.specs.Words.{wordAt}
 use Rattle.rows.specs.Inverse.{Row, reciprocal}
 use Rattle.rows.proofs.Ring.{bytesOf, byte-loaded}
 use Rattle.rows.proofs.Inverses.{reciprocal-one}
@@ -45,7 +44,7 @@ dot-combined x c y w =
     (λ j l. ap (mul (byte w j)) (getD-tabulate 8 (λ j. bitXor (getD x j 0) (mul (getD y j 0) c)) 0 j l)
     ∙ mul-xor-r (byte w j) (getD x j 0) (mul (getD y j 0) c) ∙ ap (bitXor (mul (byte w j) (getD x j 0))) (sym (mul-assoc (byte w j) (getD y j 0) c)))
     ∙ xorSum-xor 8 (λ j. mul (byte w j) (getD x j 0)) (λ j. mul (mul (byte w j) (getD y j 0)) c)
-    ∙ ap (bitXor (dot x w)) (sym (into (λ a. mul a c) (λ a b. mul-xor-l a b c) 8 (λ j. mul (byte w j) (getD y j 0))))
+    ∙ ap (bitXor (dot x w)) (sym (additive-xorSum (λ a. mul a c) (λ a b. mul-xor-l a b c) 8 (λ j. mul (byte w j) (getD y j 0))))
 
 -- a row of zeros
 pub dot-zeros : (x : List ℕ) → ((j : ℕ) → j < 8 → getD x j 0 ≡ 0) → (w : ℕ) → dot x w ≡ 0
@@ -67,11 +66,6 @@ dot-single x p s t l h =
     (λ j m n. ap (λ (b : ℕ). mul b (getD x j 0)) (h j m ∙ rw (ne-eqb j p n)) ∙ zero-mul (getD x j 0))
     ∙ ap (λ (b : ℕ). mul b (getD x p 0)) (h p l ∙ rw (eq-eqb p p refl))
 
-pick-lt : (b : Bool) (s : ℕ) → s < 2 ^ 8 → pick b s < 2 ^ 8
-unfolding pick
-pick-lt true s l = l
-pick-lt false s l = omega arith
-
 abbrev placed : ℕ → ℕ → ℕ
 placed p s = join 8 (λ j. pick (eqb j p) s)
 
@@ -82,8 +76,8 @@ placed-single p s l j m = byte-join 8 (λ j. pick (eqb j p) s) (λ k. pick-lt (e
 one-single : (p : ℕ) → p < 8 → Single p 1 (1 * 2 ^ (8 * p) % 2 ^ 64)
 unfolding byte pick
 one-single p l j m =
-    agree 8 (byte (1 * 2 ^ (8 * p) % 2 ^ 64)) (λ j. pick (eqb j p) 1)
-    (at 8 (λ p. all 8 (λ j. eqb (byte (1 * 2 ^ (8 * p) % 2 ^ 64) j) (pick (eqb j p) 1))) tt p l) j m
+    tested-agree 8 (byte (1 * 2 ^ (8 * p) % 2 ^ 64)) (λ j. pick (eqb j p) 1)
+    (tested-at 8 (λ p. all 8 (λ j. eqb (byte (1 * 2 ^ (8 * p) % 2 ^ 64) j) (pick (eqb j p) 1))) tt p l) j m
 
 -- ---- a matrix times a word
 

@@ -7,14 +7,14 @@ use mathlib.Core.List.{List}
 use Prim.Native.Nat.{ℕ, _+_, _-_, _%_, _≤_}
 use native.Mathlib.Omega.{arith}
 use lib.ListN.{getD, replicate}
-use Rattle.field.specs.Lists.{tabulate, xorSum}
-use Rattle.field.specs.Words.{byte, join}
+use Rattle.forms.specs.Lists.{tabulate, xorSum}
+use Rattle.forms.specs.Words.{byte, join}
+use Rattle.forms.proofs.Tests.{tested-agree}
+use Rattle.forms.proofs.Sums.{xorSum-cong}
+use Rattle.forms.proofs.Words.{byte-zero, word-ext}
 use Rattle.field.specs.Field.{timesX, shift, mul}
 use Rattle.field.specs.Mixing.{element, matrix, dot, mixBy, mix, rowSum}
-use Rattle.field.proofs.Tests.{agree}
-use Rattle.field.proofs.Sums.{xorSum-cong}
 use Rattle.field.proofs.Field.{mul-one}
-use Rattle.field.proofs.Words.{byte-zero, word-ext}
 use Rattle.field.proofs.Mixing.{conv, conv-comm, mix-lt, byte-mix}
 use Rattle.rows.specs.Inverse.{Row, constantRow, neutral}
 use Rattle.judge.specs.declared.Verdict.{Verdict}
@@ -60,7 +60,7 @@ mix-ones g r e =
     word-ext (mix g ones) 0 (mix-lt g ones) (omega arith)
     (λ i l. byte-mix g ones i l ∙ conv-comm (byte ones) (λ k. getD g k 0) i l
     ∙ xorSum-cong 8 (λ j. mul (getD g j 0) (byte ones ((i + 8 - j) % 8))) (λ j. getD g j 0)
-    (λ j m. ap (mul (getD g j 0)) (agree 8 (byte ones) (λ k. 1) (unfold byte in tt) ((i + 8 - j) % 8) (omega arith)) ∙ mul-one (getD g j 0) (r .1 j))
+    (λ j m. ap (mul (getD g j 0)) (tested-agree 8 (byte ones) (λ k. 1) (unfold byte in tt) ((i + 8 - j) % 8) (omega arith)) ∙ mul-one (getD g j 0) (r .1 j))
     ∙ e ∙ sym (byte-zero i))
 
 pub good-accepted : (g : List ℕ) → Row g → GoodEnough g → rowSum g ≡ 0 → ⊥

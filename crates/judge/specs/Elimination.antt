@@ -1,4 +1,4 @@
--- What the judge's steps do. No part of the request: the code's way to `Judged`. A matrix gives a word that is its product with some word, the
+-- The code's own forms, which no reader has to believe: what the judge's steps do, its way to `Judged`. A matrix gives a word that is its product with some word, the
 -- word of the unknowns, and keeps a word that is its product with that word itself.
 -- Assumes nothing.
 use Prim.Native.Nat.{ℕ, _+_, _-_, _^_, _≤_, _<_}
@@ -7,8 +7,8 @@ use mathlib.Core.List.{List, []}
 use lib.Bits.{bitXor}
 use lib.Dec.{ltb}
 use lib.ListN.{getD}
-use Rattle.field.specs.Lists.{tabulate, when}
-use Rattle.field.specs.Words.{byte}
+use Rattle.forms.specs.Lists.{tabulate, when}
+use Rattle.forms.specs.Words.{byte}
 use Rattle.field.specs.Field.{mul}
 use Rattle.field.specs.Mixing.{dot, mixBy}
 use Rattle.judge.specs.Judge.{nonzero}

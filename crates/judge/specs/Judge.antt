@@ -10,8 +10,8 @@ use mathlib.Core.Bool.{true, false}
 use mathlib.Core.Logic.{_↔_}
 use mathlib.Core.List.{List}
 use lib.Dec.{eqb}
-use Rattle.field.specs.Lists.{when}
-use Rattle.field.specs.Words.{byte}
+use Rattle.forms.specs.Lists.{when}
+use Rattle.forms.specs.Words.{byte}
 use Rattle.field.specs.Mixing.{mix}
 use Rattle.judge.specs.declared.Verdict.{Verdict}
 

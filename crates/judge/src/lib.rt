@@ -146,7 +146,7 @@ pub fn active_bytes(w: u64) -> u32
     let mut n = 0u32;
     let mut k = 0usize;
     while k < 8 {
-        if arithmetic::byte_at(w, k) != 0 {
+        if buffers::byte_at(w, k) != 0 {
             n += 1;
         }
         k += 1;

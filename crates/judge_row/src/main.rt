@@ -61,14 +61,14 @@ fn digit(b: u8) -> u8 {
 // The row whose digits a word has, g_0 highest.
 fn row_of_digits(w: u64) -> [u8; 8] {
     [
-        arithmetic::byte_at(w, 7),
-        arithmetic::byte_at(w, 6),
-        arithmetic::byte_at(w, 5),
-        arithmetic::byte_at(w, 4),
-        arithmetic::byte_at(w, 3),
-        arithmetic::byte_at(w, 2),
-        arithmetic::byte_at(w, 1),
-        arithmetic::byte_at(w, 0),
+        buffers::byte_at(w, 7),
+        buffers::byte_at(w, 6),
+        buffers::byte_at(w, 5),
+        buffers::byte_at(w, 4),
+        buffers::byte_at(w, 3),
+        buffers::byte_at(w, 2),
+        buffers::byte_at(w, 1),
+        buffers::byte_at(w, 0),
     ]
 }
 

@@ -1,34 +1,36 @@
--- Parts that agree on bytes and words give the same block map and the same expansion; the article's parts are sound, and those by the
--- merged table, in either form, and by the matrix agree with them. What a working key's unused words hold matters to nothing.
+-- Parts that agree on bytes and words give the same block map and the same expansion. The parts of a substitution with its inverse and a row
+-- are sound, so the article's; those by the merged table, in either form, and by the matrix agree with them. What a working key's unused
+-- words hold matters to nothing.
 -- Assumes nothing.
-use mathlib.Core.Path.{_≡_, refl, sym, ap, ap₂, _∙_, fun-ext}
+use mathlib.Core.Path.{_≡_, refl, ap, ap₂, _∙_, fun-ext}
 use mathlib.Core.Bool.{true, false}
-use mathlib.Core.List.{List, [], _∷_, _++_}
-use Prim.Native.Nat.{ℕ, zero, suc, _+_, _-_, _*_, _/_, _%_, _^_, _≤_, _<_}
+use mathlib.Core.Logic.{_⊎_, inl, inr}
+use mathlib.Core.List.{List, _++_}
+use Prim.Native.Nat.{ℕ, zero, suc, _+_, _-_, _*_, _/_, _%_, _^_, _<_}
 use native.Mathlib.Omega.{arith}
 use lib.Arith.{digits-lt}
 use lib.Bits.{bitXor}
 use lib.Dec.{ltb, ltb→lt}
 use lib.ListN.{length, getD}
-use Rattle.field.specs.Lists.{tabulate, xorSum}
-use Rattle.field.specs.Words.{byte, rotl, rotr, eachByte}
+use Rattle.forms.specs.Words.{byte, rotl, rotr, eachByte, words}
+use Rattle.forms.proofs.Tests.{tested-at}
+use Rattle.forms.proofs.Lists.{length-tabulate, getD-tabulate, tabulate-cong}
+use Rattle.forms.proofs.Sums.{xorSum-cong}
+use Rattle.forms.proofs.Words.{byte-lt, each-cong, OnBytes}
+use Rattle.forms.proofs.Bytes.{tabulate-small, good-words, bytes-small}
 use Rattle.field.specs.Substitution.{sub, subInv, invert}
 use Rattle.field.specs.Mixing.{matrix, mixBy, mix}
 use Rattle.field.specs.Merged.{entry, merged, lookup}
 use Rattle.field.specs.Published.{table1, row}
-use Rattle.field.proofs.Tests.{at}
-use Rattle.field.proofs.Lists.{length-tabulate, getD-tabulate, tabulate-cong}
-use Rattle.field.proofs.Sums.{xorSum-cong}
-use Rattle.field.proofs.Words.{byte-lt, each-cong}
 use Rattle.field.proofs.Mixing.{mix-lt}
 use Rattle.field.proofs.Substitution.{Undo, table1-undo, sub-invert}
 use Rattle.field.proofs.Merged.{lookup-merged}
-use Rattle.labyrinth.specs.Blocks.{Block, plus, minus, each, zip, words, bytes, load, store}
+use Rattle.labyrinth.specs.Blocks.{Block, plus, minus, each, zip, load, store}
 use Rattle.labyrinth.specs.Cipher.{Parts, partsOf, article, P, SL, F, IMix, IT, FT, round, rounds, exchange, EF}
 use Rattle.labyrinth.specs.Keys.{half, order, register, delta, grow, expandedWords, E, U}
-use Rattle.labyrinth.specs.Working.{spread, wide, share, lookupIn, tableParts, matrixParts}
-use Rattle.labyrinth.proofs.Blocks.{Bytes, tabulate-small, good-words, bytes-small, pair}
-use Rattle.labyrinth.proofs.Undo.{IT-is, FT-is, OnWords, Sound, rounds-cong}
+use Rattle.labyrinth.specs.Working.{eightTables, lendable, wide, share, lookupIn, tableParts, matrixParts}
+use Rattle.labyrinth.proofs.Blocks.{pair}
+use Rattle.labyrinth.proofs.Undo.{Sound, rounds-cong}
 
 pub record Agree (p q : Parts) : Type 0 where
   pub S : (x : ℕ) → x < 2 ^ 8 → p .S x ≡ q .S x
@@ -90,67 +92,96 @@ EF-agree p q h n a K b s =
     ∙ ap (λ (z : Block). FT (q .S⁻¹) n b (exchange z)) (rounds-agree (p .SM) (q .SM) (h .SM) n K 16 (IT (p .S) n a s))
     ∙ ap (λ (z : Block). FT (q .S⁻¹) n b (exchange (rounds (q .SM) n K 16 z))) (IT-cong (p .S) (q .S) (h .S) n a s)
 
--- ---- the article's parts and the engines'
+-- ---- the parts of a substitution and a row
+
+pub partsOf-sound : (s g : List ℕ) → Undo (sub s) (subInv s) → Sound (partsOf s g)
+unfolding partsOf
+partsOf-sound s g u = record { undo = u; onWords = λ w. mix-lt g (eachByte (sub s) w) }
 
 pub article-sound : Sound article
-unfolding article partsOf
-article-sound = record { undo = table1-undo; onWords = λ w. mix-lt row (eachByte (sub table1) w) }
+unfolding article
+article-sound = partsOf-sound table1 row table1-undo
 
--- the merged table as it is lent
+-- ---- a table as it is lent
+
 pub merged-length : (g s : List ℕ) → length (merged g s) ≡ 256
 unfolding merged
 merged-length g s = length-tabulate 256 (entry g s)
 
-pub spread-length : (t : List ℕ) → length (spread t) ≡ 2048
-unfolding spread
-spread-length t = length-tabulate 2048 (λ i. rotl (getD t (i % 256) 0) (8 * (i / 256)))
+pub eight-length : (t : List ℕ) → length (eightTables t) ≡ 2048
+unfolding eightTables
+eight-length t = length-tabulate 2048 (λ i. rotl (getD t (i % 256) 0) (8 * (i / 256)))
 
 pub narrow : (t : List ℕ) → length t ≡ 256 → (w : ℕ) → lookupIn (wide t) t w ≡ lookupIn false t w
 unfolding wide
 narrow t e w = rw e
 
 -- the eight tables give what the one gives
-share-spread : (t : List ℕ) (b x : ℕ) → b < 8 → x < 2 ^ 8 → share true (spread t) b x ≡ share false t b x
-unfolding share spread
-share-spread t b x l m =
+share-eight : (t : List ℕ) (b x : ℕ) → b < 8 → x < 2 ^ 8 → share true (eightTables t) b x ≡ share false t b x
+unfolding share eightTables
+share-eight t b x l m =
     let q : (256 * b + x) % 256 ≡ x = omega arith in
     let d : (256 * b + x) / 256 ≡ b = omega arith in
     getD-tabulate 2048 (λ i. rotl (getD t (i % 256) 0) (8 * (i / 256))) 0 (256 * b + x) (omega arith) ∙ ap₂ (λ (y k : ℕ). rotl (getD t y 0) (8 * k)) q d
 
-pub spread-gives : (t : List ℕ) (w : ℕ) → lookupIn (wide (spread t)) (spread t) w ≡ lookupIn false t w
+pub eight-give : (t : List ℕ) (w : ℕ) → lookupIn (wide (eightTables t)) (eightTables t) w ≡ lookupIn false t w
 unfolding wide lookupIn
-spread-gives t w =
-    rw (spread-length t) (xorSum-cong 8 (λ b. share true (spread t) b (byte w b)) (λ b. share false t b (byte w b)) (λ b l. share-spread t b (byte w b) l (byte-lt w b)))
+eight-give t w =
+    rw (eight-length t) (xorSum-cong 8 (λ b. share true (eightTables t) b (byte w b)) (λ b. share false t b (byte w b)) (λ b l. share-eight t b (byte w b) l (byte-lt w b)))
 
 -- and that is the look-up
 pub lookup-is : (t : List ℕ) (w : ℕ) → lookupIn false t w ≡ lookup t w
 unfolding lookupIn share lookup
 lookup-is t w = refl
 
--- look-up is the article's substitution and mixing
-pub lookup-agrees : (w : ℕ) → w < 2 ^ 64 → lookup (merged row table1) w ≡ article .SM w
-unfolding article partsOf
-lookup-agrees w l = lookup-merged row table1 (table1-undo .there) w
+-- the table m, in either form
+abbrev pub HandedOut : List ℕ → List ℕ → Type 0
+HandedOut m t = (t ≡ m) ⊎ (t ≡ eightTables m)
 
-pub table-agrees : Agree (tableParts table1 (invert table1) (merged row table1)) article
-unfolding tableParts article partsOf
-table-agrees = record {
-  S = λ x l. refl;
-  S⁻¹ = λ x l. sub-invert table1 x l;
-  SM = λ w l. narrow (merged row table1) (merged-length row table1) w ∙ lookup-is (merged row table1) w ∙ lookup-agrees w l;
-}
+pub handed-one : {m t : List ℕ} → t ≡ m → HandedOut m t
+handed-one e = inl e
 
-pub spread-agrees : Agree (tableParts table1 (invert table1) (spread (merged row table1))) article
-unfolding tableParts article partsOf
-spread-agrees = record {
-  S = λ x l. refl;
-  S⁻¹ = λ x l. sub-invert table1 x l;
-  SM = λ w l. spread-gives (merged row table1) w ∙ lookup-is (merged row table1) w ∙ lookup-agrees w l;
-}
+pub handed-eight : {m t x : List ℕ} → t ≡ m → x ≡ eightTables t → HandedOut m x
+handed-eight e h = inr (h ∙ ap eightTables e)
 
-pub matrix-agrees : Agree (matrixParts table1 (invert table1) (matrix row)) article
-unfolding matrixParts article partsOf mix
-matrix-agrees = record { S = λ x l. refl; S⁻¹ = λ x l. sub-invert table1 x l; SM = λ w l. refl }
+pub handed-lendable : {m t : List ℕ} → length m ≡ 256 → HandedOut m t → lendable (length t) ≡ true
+unfolding lendable
+handed-lendable l (inl e) = rw (e, l)
+handed-lendable {m} l (inr e) = rw (e, eight-length m)
+
+handed-gives : (m : List ℕ) {t : List ℕ} → length m ≡ 256 → HandedOut m t → (w : ℕ) → lookupIn (wide t) t w ≡ lookupIn false m w
+handed-gives m l (inl e) w = ap (λ (t : List ℕ). lookupIn (wide t) t w) e ∙ narrow m l w
+handed-gives m l (inr e) w = ap (λ (t : List ℕ). lookupIn (wide t) t w) e ∙ eight-give m w
+
+-- ---- the engines' parts
+
+-- those of a substitution s, its inverse, and the merged table, in either form, or the matrix of a row g
+module _ (s g : List ℕ) where
+  -- look-up is substitution and mixing
+  pub lookup-agrees : OnBytes (sub s) → (w : ℕ) → w < 2 ^ 64 → lookup (merged g s) w ≡ partsOf s g .SM w
+  unfolding partsOf
+  lookup-agrees onBytes w l = lookup-merged g s onBytes w
+
+  pub tables-agree : OnBytes (sub s) → {x u t : List ℕ} → x ≡ s → u ≡ invert s → HandedOut (merged g s) t → Agree (tableParts x u t) (partsOf s g)
+  unfolding tableParts partsOf
+  tables-agree onBytes ex eu ht = record {
+    S = λ y l. ap (λ (z : List ℕ). sub z y) ex;
+    S⁻¹ = λ y l. ap (λ (z : List ℕ). sub z y) eu ∙ sub-invert s y l;
+    SM = λ w l. handed-gives (merged g s) (merged-length g s) ht w ∙ lookup-is (merged g s) w ∙ lookup-agrees onBytes w l;
+  }
+
+  pub matrix-agrees : {x u : List ℕ} {m : List (List ℕ)} → x ≡ s → u ≡ invert s → m ≡ matrix g → Agree (matrixParts x u m) (partsOf s g)
+  unfolding matrixParts partsOf mix
+  matrix-agrees ex eu em = record {
+    S = λ y l. ap (λ (z : List ℕ). sub z y) ex;
+    S⁻¹ = λ y l. ap (λ (z : List ℕ). sub z y) eu ∙ sub-invert s y l;
+    SM = λ w l. ap₂ (λ (n : List (List ℕ)) (z : List ℕ). mixBy n (eachByte (sub z) w)) em ex;
+  }
+
+-- the published ones, so the article's
+pub published-matrix-agrees : {s u : List ℕ} {m : List (List ℕ)} → s ≡ table1 → u ≡ invert table1 → m ≡ matrix row → Agree (matrixParts s u m) article
+unfolding article
+published-matrix-agrees = matrix-agrees table1 row
 
 -- ---- the used words of a working key
 
@@ -164,7 +195,7 @@ half-used n ws vs e j h = tabulate-cong n (λ i. getD ws (j * n + i) 0) (λ i. g
 
 pub order-lt : (i : ℕ) → i < 16 → getD order i 0 < 8
 unfolding order
-order-lt i h = ltb→lt (getD order i 0) 8 (at 16 (λ i. ltb (getD order i 0) 8) tt i h)
+order-lt i h = ltb→lt (getD order i 0) 8 (tested-at 16 (λ i. ltb (getD order i 0) 8) tt i h)
 
 EF-used : (p : Parts) (n : ℕ) (ws vs : List ℕ) → SameUsed n ws vs → (a b c d : ℕ) → a < 8 → b < 8 → c < 8 → d < 8
     → (o : ℕ → ℕ) → ((i : ℕ) → i < 16 → o i < 8) → (s : Block)

@@ -1,47 +1,48 @@
 -- Laws for the two ends of the cipher: IMix, IT and FT by their halves, as the code goes through them.
 -- Assumes nothing.
-use mathlib.Core.Path.{_≡_, refl, sym, ap, ap₂, _∙_, subst}
-use mathlib.Core.Bool.{Bool, true, false, _&&_}
+use mathlib.Core.Path.{_≡_, sym, ap, ap₂, _∙_}
+use mathlib.Core.Bool.{Bool, true, _&&_}
 use mathlib.Core.List.{List, _++_, append-nil}
 use Prim.Native.Nat.{ℕ, zero, suc, _+_, _-_, _*_, _%_, _≤_, _<_}
 use native.Mathlib.Nat.{mod-lt, add-assoc}
 use native.Mathlib.Omega.{arith}
 use borrow.Author.Tests.{eqb-true}
-use lib.Dec.{T, eqb}
+use lib.Dec.{eqb}
 use lib.Bits.{bitXor}
 use lib.ListN.{length, getD, take, drop, set, drop-of-length-le}
 use lib.Seq.{getD-drop, getD-take}
-use Rattle.field.specs.Lists.{tabulate, when}
-use Rattle.field.specs.Words.{join, rotl, rotr, eachByte}
-use Rattle.field.proofs.Tests.{at}
-use Rattle.field.proofs.Lists.{length-tabulate, getD-tabulate, tabulate-cong, tabulated}
-use Rattle.field.proofs.Words.{join-cong, rotr-rotl}
-use Rattle.labyrinth.specs.Blocks.{Block, plus, minus, each, zip, words, bytes, load, store}
-use Rattle.labyrinth.proofs.Blocks.{length-each, getD-each, length-zip, getD-zip, getD-words, length-bytes}
+use Rattle.forms.specs.Lists.{tabulate, wordsFrom}
+use Rattle.forms.specs.Words.{join, rotl, rotr, eachByte, words, bytes}
+use Rattle.forms.proofs.Booleans.{and-both}
+use Rattle.forms.proofs.Lists.{length-tabulate, getD-tabulate, tabulate-cong, tabulated}
+use Rattle.forms.proofs.Words.{join-cong, rotr-rotl}
+use Rattle.forms.proofs.Bytes.{getD-words, length-bytes}
+use Rattle.forms.proofs.Buffers.{put, put-put}
+use Rattle.labyrinth.specs.Blocks.{Block, plus, minus, each, zip, load, store}
 use Rattle.labyrinth.specs.declared.Halves.{Halves}
 use Rattle.labyrinth.specs.Cipher.{sigma, IMix, IT, FT}
 use Rattle.labyrinth.specs.Keys.{half}
 use Rattle.labyrinth.specs.Refusals.{legal}
-use Rattle.labyrinth.specs.Working.{Size, wordsFrom, room, held, blockIn}
-use Rattle.labyrinth.proofs.Room.{getD-room, take-room}
-use Rattle.labyrinth.proofs.Buffers.{put, put-put}
+use Rattle.labyrinth.specs.Working.{Size, fourWords, held, blockIn}
+use Rattle.labyrinth.proofs.Blocks.{length-each, getD-each, length-zip, getD-zip}
+use Rattle.labyrinth.proofs.FourWords.{getD-four, take-four}
 use Rattle.labyrinth.proofs.Refusals.{legal-size-of}
 
 -- ---- IMix
 
 -- Sigma: word 0 rotated after all are there
-pub sigma-first : (s : Block) (n : ℕ) → 0 < n → {d : List ℕ} {v : ℕ} → d ≡ room (tabulate n (λ j. bitXor (getD (s .0) j 0) (getD (s .1) j 0)))
-    → v ≡ rotl (getD d 0 0) 28 → set d 0 v ≡ room (tabulate n (sigma s))
-unfolding room tabulate sigma
+pub sigma-first : (s : Block) (n : ℕ) → 0 < n → {d : List ℕ} {v : ℕ} → d ≡ fourWords (tabulate n (λ j. bitXor (getD (s .0) j 0) (getD (s .1) j 0)))
+    → v ≡ rotl (getD d 0 0) 28 → set d 0 v ≡ fourWords (tabulate n (sigma s))
+unfolding fourWords tabulate sigma
 sigma-first s zero h e p = let z : ⊥ = omega arith in absurd z
 sigma-first s (suc n) h {d} e p = ap₂ (λ (y : List ℕ) (w : ℕ). set y 0 w) e (p ∙ ap (λ (y : List ℕ). rotl (getD y 0 0) 28) e)
 
 -- Sigma as it is read at (i - 1) mod n
-pub sigma-at : (s : Block) (n i : ℕ) {d : List ℕ} → i < n → n ≤ 4 → d ≡ room (tabulate n (sigma s)) → getD d ((i + n - 1) % n) 0 ≡ sigma s ((i + n - 1) % n)
+pub sigma-at : (s : Block) (n i : ℕ) {d : List ℕ} → i < n → n ≤ 4 → d ≡ fourWords (tabulate n (sigma s)) → getD d ((i + n - 1) % n) 0 ≡ sigma s ((i + n - 1) % n)
 sigma-at s n i {d} l h e =
     let m : ℕ = (i + n - 1) % n in
     let a : m < n = mod-lt (i + n - 1) (omega arith) in
-    ap (λ (x : List ℕ). getD x m 0) e ∙ getD-room (tabulate n (sigma s)) m (rw (length-tabulate n (sigma s)) a) (omega arith) ∙ getD-tabulate n (sigma s) 0 m a
+    ap (λ (x : List ℕ). getD x m 0) e ∙ getD-four (tabulate n (sigma s)) m (rw (length-tabulate n (sigma s)) a) (omega arith) ∙ getD-tabulate n (sigma s) 0 m a
 
 abbrev pub mixedWord : ℕ → Block → List ℕ → ℕ → ℕ
 mixedWord n s x i = bitXor (getD x i 0) (sigma s ((i + n - 1) % n))
@@ -50,10 +51,10 @@ mixed : (n : ℕ) (s : Block) (x : List ℕ) → tabulate n (mixedWord n s x) �
 unfolding zip
 mixed n s x = tabulate-cong n (mixedWord n s x) _ (λ i l. ap (bitXor (getD x i 0)) (sym (getD-tabulate n (λ j. sigma s ((j + n - 1) % n)) 0 i l)))
 
-pub imixed : (n : ℕ) (s : Block) {a b : List ℕ} → a ≡ room (tabulate n (mixedWord n s (s .0))) → b ≡ room (tabulate n (mixedWord n s (s .1)))
+pub imixed : (n : ℕ) (s : Block) {a b : List ℕ} → a ≡ fourWords (tabulate n (mixedWord n s (s .0))) → b ≡ fourWords (tabulate n (mixedWord n s (s .1)))
     → _≡_ {A = Halves} (record { high = a; low = b }) (held (IMix n s))
 unfolding held IMix
-imixed n s p q = λ i. record { high = (p ∙ ap room (mixed n s (s .0))) i; low = (q ∙ ap room (mixed n s (s .1))) i }
+imixed n s p q = λ i. record { high = (p ∙ ap fourWords (mixed n s (s .0))) i; low = (q ∙ ap fourWords (mixed n s (s .1))) i }
 
 -- ---- IT
 
@@ -110,15 +111,15 @@ each-turn n x = tabulate-cong n (λ j. rotl (getD x j 0) 62) (λ j. rotr (getD x
 
 -- both halves in, then IMix: IT
 pub entered : (S : ℕ → ℕ) (ks src : List ℕ) {n m : ℕ} {low high : List ℕ} {h : Halves} → n ≡ m → m ≤ 4
-    → low ≡ room (inHalf S m ks (0 * m) 62 src 0) → high ≡ room (inHalf S m ks (1 * m) 2 src (8 * m))
+    → low ≡ fourWords (inHalf S m ks (0 * m) 62 src 0) → high ≡ fourWords (inHalf S m ks (1 * m) 2 src (8 * m))
     → h ≡ held (IMix m (take m high, take m low))
     → h ≡ held (IT S n (half n ks 1, half n ks 0) (load n src))
 unfolding IT half load wordsFrom
 entered S ks src {n} {m} {low} {high} e l p q r =
     rw e
     (r ∙ ap₂ (λ (x y : List ℕ). held (IMix m (x, y)))
-    (ap (take m) q ∙ take-room m (inHalf S m ks (1 * m) 2 src (8 * m)) (length-each m _ _) l)
-    (ap (take m) p ∙ take-room m (inHalf S m ks (0 * m) 62 src 0) (length-each m _ _) l ∙ each-turn m _))
+    (ap (take m) q ∙ take-four m (inHalf S m ks (1 * m) 2 src (8 * m)) (length-each m _ _) l)
+    (ap (take m) p ∙ take-four m (inHalf S m ks (0 * m) 62 src 0) (length-each m _ _) l ∙ each-turn m _))
 
 length-IMix-high : (n : ℕ) (s : Block) → length (IMix n s .0) ≡ n
 unfolding IMix
@@ -153,16 +154,12 @@ left S ks h d {n} {m} {x} {d₁} {d₂} e l k p q r =
     out j y = zip m minus (each m (eachByte S) y) (half m ks j)
 
     low : take m (x .low) ≡ u .1
-    low = ap (λ (y : Halves). take m (y .low)) p ∙ take-room m (u .1) (length-IMix-low m _) l
+    low = ap (λ (y : Halves). take m (y .low)) p ∙ take-four m (u .1) (length-IMix-low m _) l
 
     high : take m (x .high) ≡ u .0
-    high = ap (λ (y : Halves). take m (y .high)) p ∙ take-room m (u .0) (length-IMix-high m _) l
+    high = ap (λ (y : Halves). take m (y .high)) p ∙ take-four m (u .0) (length-IMix-high m _) l
 
 -- ---- what is tested first
-
-pub and-both : (a b : Bool) → (a && b) ≡ true → (a ≡ true) × (b ≡ true)
-and-both true b e = (refl, e)
-and-both false b e = absurd (subst T (sym e) tt)
 
 -- what is left for the last arm
 pub is-four : {n : ℕ} → Size n → (n ≡ 1 → ⊥) → (n ≡ 2 → ⊥) → n ≡ 4
@@ -171,9 +168,3 @@ is-four s a b = omega arith
 -- as the code's test answers
 pub fits-is : (n k : ℕ) {r : Bool} → r ≡ (legal n && eqb k (16 * n)) → r ≡ true → Size n × (k ≡ 16 * n)
 fits-is n k e t = let b = and-both (legal n) (eqb k (16 * n)) (sym e ∙ t) in (legal-size-of n (b .0), eqb-true k (16 * n) (b .1))
-
-pub chosen : {A : Type 0} {r b : Bool} (x y : A) → r ≡ b → r ≡ true → x ≡ when b x y
-chosen x y e t = rw (sym e ∙ t)
-
-pub spared : {A : Type 0} {r b : Bool} (x y : A) → r ≡ b → r ≡ false → y ≡ when b x y
-spared x y e t = rw (sym e ∙ t)

@@ -2,7 +2,7 @@
 -- Assumes nothing.
 use mathlib.Core.Path.{_≡_, refl, sym, ap, ap₂, _∙_}
 use mathlib.Core.List.{List, [], _∷_, _++_, append-assoc, append-nil}
-use mathlib.Core.Bool.{Bool, true}
+use mathlib.Core.Bool.{Bool}
 use Prim.Native.Nat.{ℕ, zero, suc, _+_, _-_, _*_, _^_, _≤_, _<_}
 use native.Mathlib.Nat.{mul-comm, suc-mul}
 use native.Mathlib.Numerals.{add-one}
@@ -10,21 +10,21 @@ use native.Mathlib.Omega.{arith}
 use lib.Bits.{bitXor, xor-comm}
 use lib.ListN.{length, getD, take, drop, set, replicate, length-append, List·getD-append}
 use lib.Seq.{set-at, append-snoc}
-use Rattle.field.specs.Lists.{tabulate, xorSum, when}
-use Rattle.field.specs.Words.{join, rotl}
-use Rattle.field.proofs.Lists.{length-tabulate, getD-tabulate, tabulate-cong, tabulated}
-use Rattle.field.proofs.Sums.{xorSum-cong}
-use Rattle.labyrinth.specs.Blocks.{each, zip, words}
+use Rattle.forms.specs.Lists.{tabulate, xorSum, when}
+use Rattle.forms.specs.Words.{join, rotl, words}
+use Rattle.forms.proofs.Lists.{length-tabulate, tabulate-cong, tabulated, tabulate-snoc}
+use Rattle.forms.proofs.Sums.{xorSum-cong}
+use Rattle.forms.proofs.Bytes.{length-words}
+use Rattle.labyrinth.specs.Blocks.{each, zip}
 use Rattle.labyrinth.specs.Cipher.{F}
 use Rattle.labyrinth.specs.Keys.{half, register, delta, grow, expandedWords}
 use Rattle.labyrinth.specs.declared.Expanded.{Expanded}
 use Rattle.labyrinth.specs.Refusals.{legal, padded, expansion}
-use Rattle.labyrinth.specs.Working.{Size, room}
+use Rattle.labyrinth.specs.Working.{Size, fourWords}
 use Rattle.labyrinth.proofs.Sizes.{sizes, legal-size}
-use Rattle.labyrinth.proofs.Room.{taken}
-use Rattle.labyrinth.proofs.Blocks.{length-zip, length-words, getD-words}
+use Rattle.labyrinth.proofs.FourWords.{taken}
+use Rattle.labyrinth.proofs.Blocks.{length-zip}
 use Rattle.labyrinth.proofs.Agree.{expandedWords-agree}
-use Rattle.labyrinth.proofs.Rounds.{tabulate-snoc}
 
 -- ---- zeros behind a list do not show
 
@@ -135,20 +135,20 @@ zip-comm n x y = tabulate-cong n (λ j. bitXor (getD x j 0) (getD y j 0)) (λ j.
 front : (n : ℕ) (z r : List ℕ) → length z ≡ n → tabulate n (λ i. getD (z ++ r) i 0) ≡ z
 front n z r e = sym (tabulated n (λ i. getD (z ++ r) i 0) 0 z e (λ i l. sym (List·getD-append z r 0 i (omega arith))))
 
-half-taken : (n : ℕ) (w : List ℕ) (j : ℕ) {r : List ℕ} → n ≤ 4 → r ≡ room (half n w j) → take n r ≡ half n w j
+half-taken : (n : ℕ) (w : List ℕ) (j : ℕ) {r : List ℕ} → n ≤ 4 → r ≡ fourWords (half n w j) → take n r ≡ half n w j
 unfolding half
 half-taken n w j h e = taken n _ h e
 
-pub register-taken : (n l : ℕ) (w : List ℕ) {r : List ℕ} → n ≤ 4 → r ≡ room (register n l w) → take n r ≡ register n l w
+pub register-taken : (n l : ℕ) (w : List ℕ) {r : List ℕ} → n ≤ 4 → r ≡ fourWords (register n l w) → take n r ≡ register n l w
 unfolding register
 register-taken n l w h e = taken n _ h e
 
-delta-taken : (n : ℕ) (g : List ℕ) {r : List ℕ} → n ≤ 4 → r ≡ room (delta n g) → take n r ≡ delta n g
+delta-taken : (n : ℕ) (g : List ℕ) {r : List ℕ} → n ≤ 4 → r ≡ fourWords (delta n g) → take n r ≡ delta n g
 unfolding delta each
 delta-taken n g h e = taken n _ h e
 
 pub grown-step : (SM : ℕ → ℕ) (n l j : ℕ) (g w total : List ℕ) {g′ a b y w′ : List ℕ} → Size n → Grown SM n l j (take n g) w total → j < 8
-    → g′ ≡ room (delta n (take n g)) → a ≡ room (half n w (j - l)) → b ≡ room (half n w (j - 1))
+    → g′ ≡ fourWords (delta n (take n g)) → a ≡ fourWords (half n w (j - l)) → b ≡ fourWords (half n w (j - 1))
     → y ≡ when (legal n) (zip n bitXor (take n a) (F SM n (take n g′) (take n b)) ++ drop n b) b
     → ((ks : List ℕ) → length ks ≡ j * n → w ≡ padded ks → w′ ≡ padded (ks ++ tabulate n (λ i. getD y i 0)))
     → Grown SM n l (j + 1) (take n g′) w′ total

@@ -1,7 +1,6 @@
 pub mod Sizes
 pub mod Blocks
-pub mod Room
-pub mod Buffers
+pub mod FourWords
 pub mod Permutation
 pub mod Rounds
 pub mod Undo
@@ -11,3 +10,4 @@ pub mod Ends
 pub mod Schedule
 pub mod Expansion
 pub mod Operations
+pub mod Lent

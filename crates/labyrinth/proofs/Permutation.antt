@@ -10,17 +10,16 @@ use lib.Arith.{mod-mul, digits-div, digits-mod}
 use lib.Bits.{bitXor, xor-zero-r}
 use lib.ListN.{getD, take}
 use lib.Seq.{getD-take}
-use Rattle.field.specs.Lists.{tabulate, xorSum}
-use Rattle.field.specs.Words.{byte, join, rotl}
-use Rattle.field.proofs.Lists.{getD-tabulate, tabulate-cong}
-use Rattle.field.proofs.Xor.{xors, xor-assoc}
-use Rattle.field.proofs.Sums.{xorSum-cong, xorSum-next}
-use Rattle.field.proofs.Words.{byte-lt, byte-join, join-cong}
-use Rattle.labyrinth.specs.Blocks.{words, bytes}
+use Rattle.forms.specs.Lists.{tabulate, xorSum}
+use Rattle.forms.specs.Words.{byte, join, rotl, words, bytes}
+use Rattle.forms.proofs.Lists.{getD-tabulate, tabulate-cong}
+use Rattle.forms.proofs.Xor.{xors, xor-assoc}
+use Rattle.forms.proofs.Sums.{xorSum-cong, xorSum-next}
+use Rattle.forms.proofs.Words.{byte-lt, byte-join, join-cong}
+use Rattle.forms.proofs.Bytes.{getD-words, getD-bytes}
 use Rattle.labyrinth.specs.Cipher.{P}
 use Rattle.labyrinth.specs.Working.{Size, share}
 use Rattle.labyrinth.proofs.Sizes.{sizes}
-use Rattle.labyrinth.proofs.Blocks.{getD-words, getD-bytes}
 
 -- ---- where a byte comes from
 

@@ -1,39 +1,17 @@
 -- What the refusals say in plain terms: when each number is 0.
 -- Assumes nothing.
-use mathlib.Core.Path.{_≡_, refl, sym, ap, _∙_}
-use mathlib.Core.Bool.{Bool, true, false, _||_, false≢true}
-use mathlib.Core.Logic.{_⊎_, inl, inr, ⊎-elim, ⊎-map, _↔_}
-use Prim.Native.Nat.{ℕ, zero, suc, _+_, _*_, _≤_, _<_}
+use mathlib.Core.Path.{_≡_, sym, _∙_}
+use mathlib.Core.Bool.{true}
+use mathlib.Core.Logic.{_⊎_, ⊎-elim, _↔_}
+use Prim.Native.Nat.{ℕ, _*_, _≤_}
 use native.Mathlib.Omega.{arith}
-use borrow.Author.Tests.{eq-eqb, ne-eqb, eqb-true}
+use borrow.Author.Tests.{eq-eqb, eqb-true}
 use lib.Dec.{eqb}
+use Rattle.forms.proofs.Refusals.{unless-zero}
+use Rattle.forms.proofs.Booleans.{OneOf, one-of}
 use Rattle.labyrinth.specs.Working.{Size}
+use Rattle.labyrinth.specs.Refusals.{legal, legalLength, blockRefusal, expandRefusal}
 use Rattle.labyrinth.proofs.Sizes.{size-one, size-two, size-four}
-use Rattle.labyrinth.specs.Refusals.{unless, legal, legalLength, blockRefusal, expandRefusal}
-
--- a check with a number passes, and so do those after it
-pub unless-zero : (b : Bool) (k r : ℕ) → unless b (suc k) r ≡ 0 → (b ≡ true) × (r ≡ 0)
-unless-zero true k r e = (refl, e)
-unless-zero false k r e = let z : ⊥ = omega arith in absurd z
-
-or-true : (a b : Bool) → (a || b) ≡ true → (a ≡ true) ⊎ (b ≡ true)
-or-true true b e = inl refl
-or-true false b e = inr e
-
-true-or : (a b : Bool) → (a ≡ true) ⊎ (b ≡ true) → (a || b) ≡ true
-true-or true b e = refl
-true-or false b (inl e) = absurd (false≢true e)
-true-or false b (inr e) = e
-
--- n is one of three numbers
-abbrev pub OneOf : ℕ → ℕ → ℕ → ℕ → Type 0
-OneOf a b c n = (n ≡ a) ⊎ ((n ≡ b) ⊎ (n ≡ c))
-
-one-of : (a b c n : ℕ) → ((eqb n a || (eqb n b || eqb n c)) ≡ true) ↔ OneOf a b c n
-one-of a b c n = (
-  λ e. ⊎-map (eqb-true n a) (λ r. ⊎-map (eqb-true n b) (eqb-true n c) (or-true (eqb n b) (eqb n c) r)) (or-true (eqb n a) (eqb n b || eqb n c) e),
-  λ o. true-or (eqb n a) (eqb n b || eqb n c) (⊎-map (eq-eqb n a) (λ r. true-or (eqb n b) (eqb n c) (⊎-map (eq-eqb n b) (eq-eqb n c) r)) o),
-)
 
 pub legal-iff : (n : ℕ) → (legal n ≡ true) ↔ OneOf 1 2 4 n
 unfolding legal
@@ -51,17 +29,6 @@ legalLength-low l e = ⊎-elim (λ (p : l ≡ 2). omega arith) (λ r. ⊎-elim (
 
 pub legalLength-top : (l : ℕ) → legalLength l ≡ true → l ≤ 4
 legalLength-top l e = ⊎-elim (λ (p : l ≡ 2). omega arith) (λ r. ⊎-elim (λ (p : l ≡ 3). omega arith) (λ (p : l ≡ 4). omega arith) r) (legalLength-iff l .0 e)
-
--- the tests one after another, as the code makes them
-module _ (a b c n : ℕ) where
-  pub first-of : n ≡ a → true ≡ (eqb n a || (eqb n b || eqb n c))
-  first-of e = rw (eq-eqb n a e)
-
-  pub second-of : (n ≡ a → ⊥) → n ≡ b → true ≡ (eqb n a || (eqb n b || eqb n c))
-  second-of p e = rw (ne-eqb n a p, eq-eqb n b e)
-
-  pub third-of : (n ≡ a → ⊥) → (n ≡ b → ⊥) → eqb n c ≡ (eqb n a || (eqb n b || eqb n c))
-  third-of p q = rw (ne-eqb n a p, ne-eqb n b q)
 
 -- a block is taken exactly when n is 1, 2 or 4, the source has 16n bytes and so has the destination
 pub block-iff : (n s d : ℕ) → (blockRefusal n s d ≡ 0) ↔ (OneOf 1 2 4 n × (s ≡ 16 * n) × (d ≡ 16 * n))

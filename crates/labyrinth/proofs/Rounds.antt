@@ -2,7 +2,7 @@
 -- Assumes nothing.
 use mathlib.Core.Path.{_≡_, refl, sym, ap, ap₂, _∙_}
 use mathlib.Core.Bool.{Bool, true, false, _&&_}
-use mathlib.Core.List.{List, [], _∷_, _++_, append-assoc}
+use mathlib.Core.List.{List, _++_}
 use Prim.Native.Nat.{ℕ, zero, suc, _+_, _*_, _≤_, _<_}
 use native.Mathlib.Nat.{zero-add}
 use native.Mathlib.Numerals.{add-one}
@@ -10,62 +10,22 @@ use native.Mathlib.Omega.{arith}
 use borrow.Author.Tests.{ne-eqb}
 use lib.Bits.{bitXor}
 use lib.ListN.{length, getD, take, drop, set, length-append, length-drop, take-append-drop}
-use lib.Seq.{take-at, drop-at, drop-cons, set-at, getD-at, getD-take, length-take-le}
-use Rattle.field.specs.Lists.{tabulate, when}
+use lib.Seq.{take-at, drop-at, getD-take, length-take-le}
+use Rattle.forms.specs.Lists.{tabulate, when, wordsFrom}
+use Rattle.forms.proofs.Lists.{take-tabulate, Replaced, replaced-none, replaced-at, replaced-more, replaced-end, replaced-front, getD-tabulate, tabulate-cong}
+use Rattle.forms.proofs.Xor.{xors}
 use Rattle.field.specs.Published.{constants}
-use Rattle.field.proofs.Lists.{length-tabulate, getD-tabulate, tabulate-cong, tabulated}
-use Rattle.field.proofs.Xor.{xors}
 use Rattle.labyrinth.specs.declared.Halves.{Halves}
 use Rattle.labyrinth.specs.Blocks.{Block, plus, zip}
 use Rattle.labyrinth.specs.Cipher.{P, SL, F, round, rounds}
 use Rattle.labyrinth.specs.Keys.{half}
 use Rattle.labyrinth.specs.Refusals.{legal}
-use Rattle.labyrinth.specs.Working.{Size, wordsFrom, blockIn, laid, both, onBlock, lendable, wide, tableWords, lookupIn}
+use Rattle.labyrinth.specs.Working.{Size, blockIn, laid, both, onBlock, lendable, wide, tableWords, lookupIn}
 use Rattle.labyrinth.proofs.Sizes.{sizes, legal-size, illegal}
 use Rattle.labyrinth.proofs.Blocks.{length-zip, getD-zip}
 use Rattle.labyrinth.proofs.Permutation.{P-take}
 
 -- ---- an array whose first words a loop replaces
-
-pub tabulate-snoc : (n : ℕ) (f : ℕ → ℕ) → tabulate (suc n) f ≡ tabulate n f ++ (f n ∷ [])
-unfolding tabulate
-tabulate-snoc zero f = refl
-tabulate-snoc (suc n) f = ap (λ (l : List ℕ). f 0 ∷ l) (tabulate-snoc n (λ k. f (suc k)))
-
-pub front : (n : ℕ) (xs : List ℕ) → n ≤ length xs → take n xs ≡ tabulate n (λ i. getD xs i 0)
-front n xs h = tabulated n (λ i. getD xs i 0) 0 (take n xs) (length-take-le n xs h) (λ k l. getD-take n xs k 0 l)
-
--- xs is old, but for the first j words, which are f's
-pub record Replaced (f : ℕ → ℕ) (old : List ℕ) (j : ℕ) (xs : List ℕ) : Type 0 where
-  pub is : xs ≡ tabulate j f ++ drop j old
-
-module _ (f : ℕ → ℕ) (old : List ℕ) where
-  pub replaced-none : Replaced f old 0 old
-  unfolding tabulate
-  replaced-none = record { is = refl }
-
-  -- the words to come are old
-  pub replaced-at : (j : ℕ) {xs : List ℕ} → j < length old → Replaced f old j xs → getD xs j 0 ≡ getD old j 0
-  replaced-at j h p =
-      ap (λ (l : List ℕ). getD l j 0) (p .is ∙ ap (λ (l : List ℕ). tabulate j f ++ l) (drop-cons old j 0 h))
-      ∙ getD-at (tabulate j f) (getD old j 0) (drop (suc j) old) 0 j (length-tabulate j f)
-
-  pub replaced-more : (j : ℕ) {xs : List ℕ} {v : ℕ} → j < length old → v ≡ f j → Replaced f old j xs → Replaced f old (j + 1) (set xs j v)
-  replaced-more j {xs} {v} h e p = record {
-    is =
-        ap (λ (l : List ℕ). set l j v) (p .is ∙ ap (λ (l : List ℕ). tabulate j f ++ l) (drop-cons old j 0 h))
-        ∙ set-at (tabulate j f) (getD old j 0) (drop (suc j) old) v j (length-tabulate j f)
-        ∙ ap (λ (x : ℕ). tabulate j f ++ (x ∷ drop (suc j) old)) e
-        ∙ sym (append-assoc (tabulate j f) (f j ∷ []) (drop (suc j) old))
-        ∙ ap (λ (l : List ℕ). l ++ drop (suc j) old) (sym (tabulate-snoc j f))
-        ∙ ap (λ (k : ℕ). tabulate k f ++ drop k old) (sym (add-one j));
-  }
-
-  pub replaced-end : {j n : ℕ} {xs : List ℕ} → j ≡ n → Replaced f old j xs → xs ≡ tabulate n f ++ drop n old
-  replaced-end e p = p .is ∙ ap (λ (k : ℕ). tabulate k f ++ drop k old) e
-
-  pub replaced-front : {j n : ℕ} {xs : List ℕ} → j ≡ n → Replaced f old j xs → take n xs ≡ tabulate n f
-  replaced-front {j} {n} e p = ap (take n) (replaced-end e p) ∙ take-at (tabulate n f) (drop n old) n (length-tabulate n f)
 
 -- the right half with n key words added
 pub added : (n at : ℕ) (x ks old : List ℕ) {j : ℕ} {y : List ℕ} → j ≡ n → Replaced (λ i. plus (getD x i 0) (getD ks (at + i) 0)) old j y
@@ -87,7 +47,7 @@ unfolding wordsFrom
 words-front n ks k h len e =
     tabulate-cong n (λ i. getD ks (0 + i) 0) (λ i. getD k i 0)
     (λ i l. ap (λ (m : ℕ). getD ks m 0) (zero-add i) ∙ sym (getD-take 4 ks i 0 (omega arith)) ∙ ap (λ (x : List ℕ). getD x i 0) e)
-    ∙ sym (front n k (omega arith))
+    ∙ sym (take-tabulate n k (omega arith))
 
 -- ---- one iteration, word by word
 
@@ -122,7 +82,7 @@ module _ (SM : ℕ → ℕ) (n : ℕ) (y l₀ r₀ : List ℕ) where
   unfolding onBlock laid blockIn round zip F SL
   turned-all k {j} hl hr e e′ p =
       ap₂ both
-      (replaced-end _ l₀ e′ (p .left) ∙ ap (λ (x : List ℕ). x ++ drop n l₀) (sym (front n r₀ hr)))
+      (replaced-end _ l₀ e′ (p .left) ∙ ap (λ (x : List ℕ). x ++ drop n l₀) (sym (take-tabulate n r₀ hr)))
       (replaced-end _ r₀ e′ (p .right) ∙ ap (λ (x : List ℕ). x ++ drop n r₀)
       (tabulate-cong n (newWord SM n y l₀) (λ i. bitXor (getD (take n l₀) i 0) (getD (tabulate n after) i 0))
       (λ i l. sorted (getD l₀ i 0) (getD constants i 0) (SM (getD (P n y) i 0))
@@ -201,8 +161,8 @@ module _ (SM : ℕ → ℕ) (n : ℕ) (size : Size n) (ks : List ℕ) (h₀ : Ha
   unfolding rounds onBlock
   ran-none = record { turns = 0; most = omega arith; place = refl; is = sym (laid-block n h₀); high = high; low = low }
 
-  pub ran-room : {at : ℕ} {h : Halves} → at < 18 * n → Ran SM n ks h₀ at h → at + n ≤ 80
-  ran-room {at} l p = place-in n size (p .turns) at (p .place) l .1
+  pub ran-inside : {at : ℕ} {h : Halves} → at < 18 * n → Ran SM n ks h₀ at h → at + n ≤ 80
+  ran-inside {at} l p = place-in n size (p .turns) at (p .place) l .1
 
   pub ran-more : {at : ℕ} {h h′ : Halves} → at < 18 * n → h′ ≡ onBlock n (round SM n (wordsFrom n at ks)) h → Ran SM n ks h₀ at h → Ran SM n ks h₀ (at + n) h′
   unfolding rounds onBlock wordsFrom half K

@@ -9,38 +9,38 @@ use borrow.Author.Tests.{lt-ltb, le-ltb}
 use lib.Arith.{digits-div, digits-mod, digits-lt}
 use lib.Dec.{ltb, ltb→lt}
 use lib.ListN.{length, getD, drop, replicate, getD-replicate, List·getD-append}
-use Rattle.field.specs.Lists.{tabulate, pick}
-use Rattle.field.proofs.Tests.{all, agree, at}
-use Rattle.field.proofs.Lists.{getD-tabulate, tabulate-cong, length-tabulate, tabulated}
-use Rattle.labyrinth.specs.Blocks.{Block, load, store, words}
-use Rattle.labyrinth.specs.Cipher.{Parts, FT, rounds, exchange, EF}
-use Rattle.labyrinth.specs.Keys.{half, order, E, U}
-use Rattle.labyrinth.specs.Refusals.{legal}
-use Rattle.labyrinth.specs.Working.{Size, useOrder, schedule, line, lineBytes, wordsFrom}
-use Rattle.labyrinth.proofs.Sizes.{sizes, legal-size}
-use Rattle.labyrinth.proofs.Undo.{rounds-cong}
 use native.Mathlib.Nat.{mod-eq-of-lt, div-eq-of-lt, add-zero, zero-mul, mul-add-div-right, mul-add-mod-self-right}
 use native.Mathlib.Decide.{decLt}
 use lib.Seq.{getD-drop, getD-append-add}
-use Rattle.labyrinth.proofs.Buffers.{put, put-none, put-next, length-put}
+use Rattle.forms.specs.Lists.{tabulate, pick, wordsFrom}
+use Rattle.forms.proofs.Tests.{tested-agree, tested-at}
+use Rattle.forms.proofs.Lists.{getD-tabulate, tabulate-cong, length-tabulate, tabulated}
+use Rattle.forms.proofs.Buffers.{put, put-none, put-next, length-put}
+use Rattle.labyrinth.specs.Blocks.{Block, load, store}
+use Rattle.labyrinth.specs.Cipher.{Parts, FT, exchange, EF}
+use Rattle.labyrinth.specs.Keys.{half, order, E, U}
+use Rattle.labyrinth.specs.Refusals.{legal}
+use Rattle.labyrinth.specs.Working.{Size, useOrder, schedule, line, lineBytes}
+use Rattle.labyrinth.proofs.Sizes.{sizes, legal-size}
+use Rattle.labyrinth.proofs.Undo.{rounds-cong}
 
 -- the order is the article's: k_i for i below 8, then k_(3i mod 8)
 pub order-first : (i : ℕ) → i < 8 → getD order i 0 ≡ i
 unfolding order
-order-first = agree 8 (λ i. getD order i 0) (λ i. i) tt
+order-first = tested-agree 8 (λ i. getD order i 0) (λ i. i) tt
 
 pub order-second : (i : ℕ) → i < 8 → getD order (8 + i) 0 ≡ 3 * (8 + i) % 8
 unfolding order
-order-second = agree 8 (λ i. getD order (8 + i) 0) (λ i. 3 * (8 + i) % 8) tt
+order-second = tested-agree 8 (λ i. getD order (8 + i) 0) (λ i. 3 * (8 + i) % 8) tt
 
 -- and backwards it is what the article gives for deciphering
 pub order-back-first : (i : ℕ) → i < 8 → getD order (15 - i) 0 ≡ 3 * (7 - i) % 8
 unfolding order
-order-back-first = agree 8 (λ i. getD order (15 - i) 0) (λ i. 3 * (7 - i) % 8) tt
+order-back-first = tested-agree 8 (λ i. getD order (15 - i) 0) (λ i. 3 * (7 - i) % 8) tt
 
 pub order-back-second : (i : ℕ) → i < 8 → getD order (15 - (8 + i)) 0 ≡ 7 - (8 + i) % 8
 unfolding order
-order-back-second = agree 8 (λ i. getD order (15 - (8 + i)) 0) (λ i. 7 - (8 + i) % 8) tt
+order-back-second = tested-agree 8 (λ i. getD order (15 - (8 + i)) 0) (λ i. 7 - (8 + i) % 8) tt
 
 -- ---- the schedule's half-blocks
 
@@ -61,11 +61,11 @@ half-schedule n s ws back i h =
 -- the rounds' part of the order
 forth : (i : ℕ) → i < 16 → getD (useOrder false) (i + 2) 0 ≡ getD order i 0
 unfolding useOrder order
-forth = agree 16 (λ i. getD (useOrder false) (i + 2) 0) (λ i. getD order i 0) tt
+forth = tested-agree 16 (λ i. getD (useOrder false) (i + 2) 0) (λ i. getD order i 0) tt
 
 back : (i : ℕ) → i < 16 → getD (useOrder true) (i + 2) 0 ≡ getD order (15 - i) 0
 unfolding useOrder order
-back = agree 16 (λ i. getD (useOrder true) (i + 2) 0) (λ i. getD order (15 - i) 0) tt
+back = tested-agree 16 (λ i. getD (useOrder true) (i + 2) 0) (λ i. getD order (15 - i) 0) tt
 
 -- ---- EF under the schedule
 
@@ -103,8 +103,8 @@ order-back i h l =
 
 pub useOrder-lt : (way : Bool) (i : ℕ) → i < 20 → getD (useOrder way) i 0 < 8
 unfolding order useOrder
-useOrder-lt true i l = ltb→lt _ 8 (at 20 (λ k. ltb (getD (useOrder true) k 0) 8) tt i l)
-useOrder-lt false i l = ltb→lt _ 8 (at 20 (λ k. ltb (getD (useOrder false) k 0) 8) tt i l)
+useOrder-lt true i l = ltb→lt _ 8 (tested-at 20 (λ k. ltb (getD (useOrder true) k 0) 8) tt i l)
+useOrder-lt false i l = ltb→lt _ 8 (tested-at 20 (λ k. ltb (getD (useOrder false) k 0) 8) tt i l)
 
 -- k half-blocks of n words are at most 4k words
 pub within : (n : ℕ) → Size n → (i k : ℕ) → i < k → i * n + n ≤ 4 * k

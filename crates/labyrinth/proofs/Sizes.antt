@@ -1,8 +1,8 @@
 -- The three sizes: what holds of 1, 2 and 4 holds of every legal n.
 -- Assumes nothing.
-use mathlib.Core.Path.{_≡_, refl, sym, ap, _∙_}
-use mathlib.Core.Bool.{Bool, true, false}
-use Prim.Native.Nat.{ℕ, zero, suc, _+_, _*_, _≤_, _<_}
+use mathlib.Core.Path.{_≡_, refl}
+use mathlib.Core.Bool.{true, false}
+use Prim.Native.Nat.{ℕ, zero, suc}
 use native.Mathlib.Nat.{not-suc-le-zero}
 use native.Mathlib.Omega.{arith}
 use borrow.Author.Tests.{ne-eqb}
@@ -13,7 +13,7 @@ pub sizes : (P : ℕ → Type 0) → P 1 → P 2 → P 4 → (n : ℕ) → Size 
 sizes P a b d zero s = absurd (not-suc-le-zero (s .pos))
 sizes P a b d (suc zero) s = a
 sizes P a b d (suc (suc zero)) s = b
-sizes P a b d (suc (suc (suc zero))) s = absurd (s .odd refl)
+sizes P a b d (suc (suc (suc zero))) s = absurd (s .notThree refl)
 sizes P a b d (suc (suc (suc (suc zero)))) s = d
 sizes P a b d (suc (suc (suc (suc (suc n))))) s = absurd (omega (arith, s .top))
 
@@ -26,10 +26,10 @@ unfolding legal
 illegal n a b d = rw (ne-eqb n 1 a, ne-eqb n 2 b, ne-eqb n 4 d)
 
 pub size-one : Size 1
-size-one = record { pos = omega arith; top = omega arith; odd = λ e. omega arith }
+size-one = record { pos = omega arith; top = omega arith; notThree = λ e. omega arith }
 
 pub size-two : Size 2
-size-two = record { pos = omega arith; top = omega arith; odd = λ e. omega arith }
+size-two = record { pos = omega arith; top = omega arith; notThree = λ e. omega arith }
 
 pub size-four : Size 4
-size-four = record { pos = omega arith; top = omega arith; odd = λ e. omega arith }
+size-four = record { pos = omega arith; top = omega arith; notThree = λ e. omega arith }

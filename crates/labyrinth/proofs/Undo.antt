@@ -1,23 +1,24 @@
 -- E and U undo each other, for any parts whose substitution and inverse undo each other: half-block by half-block, step by step.
 -- Assumes nothing.
 use mathlib.Core.Path.{_≡_, refl, sym, ap, ap₂, _∙_}
-use mathlib.Core.List.{List, [], _∷_, _++_}
-use Prim.Native.Nat.{ℕ, zero, suc, _+_, _-_, _*_, _/_, _%_, _^_, _≤_, _<_}
+use mathlib.Core.List.{List}
+use Prim.Native.Nat.{ℕ, zero, suc, _+_, _-_, _*_, _%_, _^_, _<_}
 use native.Mathlib.Nat.{mod-lt}
 use native.Mathlib.Omega.{arith}
 use lib.Bits.{bitXor, xor-lt}
 use lib.ListN.{length, getD}
-use Rattle.field.specs.Lists.{tabulate}
-use Rattle.field.specs.Words.{rotl, rotr, eachByte}
+use Rattle.forms.specs.Lists.{tabulate}
+use Rattle.forms.specs.Words.{rotl, rotr, eachByte}
+use Rattle.forms.proofs.Xor.{xors}
+use Rattle.forms.proofs.Lists.{tabulate-cong, tabulated}
+use Rattle.forms.proofs.Words.{rotl-lt, rotr-lt, rotr-undoes, rotl-undoes, each-lt, each-undo}
+use Rattle.forms.proofs.Bytes.{Bytes, Small, Good, tabulate-small, good-tabulate}
 use Rattle.field.specs.Published.{constants}
-use Rattle.field.proofs.Xor.{xors, xor-assoc}
-use Rattle.field.proofs.Lists.{length-tabulate, getD-tabulate, tabulate-cong, tabulated}
-use Rattle.field.proofs.Words.{rotl-lt, rotr-lt, rotr-undoes, rotl-undoes, each-lt, each-undo}
 use Rattle.field.proofs.Substitution.{Undo}
 use Rattle.labyrinth.specs.Blocks.{Block, plus, minus, each, zip, load, store}
-use Rattle.labyrinth.specs.Cipher.{Parts, P, SL, F, sigma, IMix, IT, FT, round, rounds, exchange, EF}
+use Rattle.labyrinth.specs.Cipher.{Parts, SL, F, sigma, IMix, IT, FT, round, rounds, exchange, EF}
 use Rattle.labyrinth.specs.Keys.{half, order, E, U}
-use Rattle.labyrinth.proofs.Blocks.{length-each, getD-each, length-zip, getD-zip, Bytes, Small, Good, Whole, tabulate-small, good-tabulate, good-each, good-zip, pair, load-store, store-load, load-whole, length-store, store-bytes}
+use Rattle.labyrinth.proofs.Blocks.{getD-each, getD-zip, Whole, good-each, good-zip, pair, load-store, store-load, load-whole, length-store, store-bytes}
 
 -- ---- words that go in and out under a key
 

@@ -1,11 +1,11 @@
 -- Half-blocks and blocks (the article's sections 1.1, 1.2 and 2.1). A half-block is a list of n words, word 0 first;
 -- a block is a pair < L || R >: .0 is the left half L, the high one, and .1 the right half R, the low one.
 -- Assumes nothing.
-use Prim.Native.Nat.{ℕ, _+_, _-_, _*_, _/_, _%_, _^_}
+use Prim.Native.Nat.{ℕ, _+_, _-_, _*_, _%_, _^_}
 use mathlib.Core.List.{List, _++_}
 use lib.ListN.{getD, drop}
-use Rattle.field.specs.Lists.{tabulate}
-use Rattle.field.specs.Words.{byte, join}
+use Rattle.forms.specs.Words.{words, bytes}
+use Rattle.forms.specs.Lists.{tabulate}
 
 abbrev pub Block : Type 0
 Block = List ℕ × List ℕ
@@ -24,13 +24,6 @@ each n f x = tabulate n (λ j. f (getD x j 0))
 -- 2.1: f of the words of x and y that have the same number, as x [+] y with the superscript n
 unfoldable pub zip : ℕ → (ℕ → ℕ → ℕ) → List ℕ → List ℕ → List ℕ
 zip n f x y = tabulate n (λ j. f (getD x j 0) (getD y j 0))
-
--- 1.1: the n words whose bytes are given, and the 8n bytes of n words, the least first
-unfoldable pub words : ℕ → List ℕ → List ℕ
-words n bs = tabulate n (λ j. join 8 (λ b. getD bs (8 * j + b) 0))
-
-unfoldable pub bytes : ℕ → List ℕ → List ℕ
-bytes n x = tabulate (8 * n) (λ i. byte (getD x (i / 8) 0) (i % 8))
 
 -- 1.1, 1.2: a block of 16n bytes in memory: R is the first 8n, L the rest
 unfoldable pub load : ℕ → List ℕ → Block

@@ -4,12 +4,12 @@ use Prim.Native.Nat.{ℕ, zero, suc, _+_, _-_, _*_, _%_}
 use mathlib.Core.List.{List}
 use lib.Bits.{bitXor}
 use lib.ListN.{getD}
-use Rattle.field.specs.Lists.{tabulate}
-use Rattle.field.specs.Words.{rotl, rotr, eachByte}
+use Rattle.forms.specs.Lists.{tabulate}
+use Rattle.forms.specs.Words.{rotl, rotr, eachByte, words, bytes}
 use Rattle.field.specs.Substitution.{sub, subInv}
 use Rattle.field.specs.Mixing.{mix}
 use Rattle.field.specs.Published.{table1, row, constants}
-use Rattle.labyrinth.specs.Blocks.{Block, plus, minus, each, zip, words, bytes}
+use Rattle.labyrinth.specs.Blocks.{Block, plus, minus, each, zip}
 
 -- 3.7 to 3.9: what the cipher is made of: S on a byte, its inverse, and S on each byte of a word followed by mixing
 pub record Parts : Type 0 where

@@ -5,9 +5,9 @@ use Prim.Native.Nat.{ℕ, zero, suc, _+_, _-_, _*_}
 use mathlib.Core.List.{List, [], _∷_, _++_}
 use lib.Bits.{bitXor}
 use lib.ListN.{getD}
-use Rattle.field.specs.Lists.{tabulate, xorSum}
-use Rattle.field.specs.Words.{rotl}
-use Rattle.labyrinth.specs.Blocks.{Block, plus, each, zip, words, load, store}
+use Rattle.forms.specs.Lists.{tabulate, xorSum}
+use Rattle.forms.specs.Words.{rotl, words}
+use Rattle.labyrinth.specs.Blocks.{plus, each, zip, load, store}
 use Rattle.labyrinth.specs.Cipher.{Parts, F, EF}
 
 -- half-block k_j of a list of words

@@ -3,3 +3,4 @@ pub mod Cipher
 pub mod Keys
 pub mod Refusals
 pub mod Working
+pub mod Lent

@@ -1,4 +1,4 @@
--- Forms that the code works in: no part of the article. Halves of at most four words in a record, and the subkeys laid out in the order of
+-- The code's own forms, which no reader has to believe: halves of at most four words in a record, and the subkeys laid out in the order of
 -- their use, at most 80 words: IT low and high, the sixteen rounds, FT low and high. Laws tie them to the definitions.
 -- Assumes nothing.
 use mathlib.Core.Path.{_≡_}
@@ -7,33 +7,30 @@ use mathlib.Core.Bool.{Bool, true, false, _&&_, _||_}
 use mathlib.Core.List.{List, [], _∷_, _++_, reverse}
 use lib.Dec.{eqb, ltb}
 use lib.ListN.{getD, length, take, drop, replicate}
-use Rattle.field.specs.Lists.{tabulate, xorSum, pick}
-use Rattle.field.specs.Words.{byte, rotl, eachByte}
+use Rattle.forms.specs.Lists.{tabulate, xorSum, pick}
+use Rattle.forms.specs.Words.{byte, rotl, eachByte}
+use Rattle.forms.specs.Refusals.{unless}
 use Rattle.field.specs.Substitution.{sub}
 use Rattle.field.specs.Mixing.{mixBy}
 use Rattle.labyrinth.specs.declared.Halves.{Halves}
 use Rattle.labyrinth.specs.Blocks.{Block, load, store}
-use Rattle.labyrinth.specs.Cipher.{Parts, article, EF}
+use Rattle.labyrinth.specs.Cipher.{Parts, EF}
 use Rattle.labyrinth.specs.Keys.{half, order, E, U}
-use Rattle.labyrinth.specs.Refusals.{unless, legal, blockRefusal}
+use Rattle.labyrinth.specs.Refusals.{legal, blockRefusal}
 
 -- n is 1, 2 or 4, in a form that arithmetic reads
 pub record Size (n : ℕ) : Type 0 where
   pub pos : 0 < n
   pub top : n ≤ 4
-  pub odd : n ≡ 3 → ⊥
-
--- n words of a list, from a place on
-unfoldable pub wordsFrom : ℕ → ℕ → List ℕ → List ℕ
-wordsFrom n at ws = tabulate n (λ i. getD ws (at + i) 0)
+  pub notThree : n ≡ 3 → ⊥
 
 -- a list of at most four words, with zeros behind it
-unfoldable pub room : List ℕ → List ℕ
-room x = take 4 (x ++ replicate 4 0)
+unfoldable pub fourWords : List ℕ → List ℕ
+fourWords x = take 4 (x ++ replicate 4 0)
 
 -- a block of at most four words a half as the record holds it
 unfoldable pub held : Block → Halves
-held s = record { high = room (s .0); low = room (s .1) }
+held s = record { high = fourWords (s .0); low = fourWords (s .1) }
 
 -- the block of n words a half that a record holds
 unfoldable pub blockIn : ℕ → Halves → Block
@@ -75,8 +72,8 @@ lineBytes p n ks b = store n (line p n ks (load n b))
 
 -- a merged table is lent as it is, 256 words, or as eight tables of 256 words one after another, table b with its words rotated left by
 -- 8b bits beforehand
-unfoldable pub spread : List ℕ → List ℕ
-spread t = tabulate 2048 (λ i. rotl (getD t (i % 256) 0) (8 * (i / 256)))
+unfoldable pub eightTables : List ℕ → List ℕ
+eightTables t = tabulate 2048 (λ i. rotl (getD t (i % 256) 0) (8 * (i / 256)))
 
 unfoldable pub lendable : ℕ → Bool
 lendable words = eqb words 256 || eqb words 2048
@@ -115,7 +112,7 @@ lentRefusal n source destination table =
 unfoldable pub matrixParts : List ℕ → List ℕ → List (List ℕ) → Parts
 matrixParts s u m = record { S = sub s; S⁻¹ = sub u; SM = λ w. mixBy m (eachByte (sub s) w) }
 
--- E (false) or U (true) of the article
-abbrev pub way : Bool → ℕ → List ℕ → List ℕ → List ℕ
-way false n ws b = E article n ws b
-way true n ws b = U article n ws b
+-- E (false) or U (true)
+abbrev pub way : Parts → Bool → ℕ → List ℕ → List ℕ → List ℕ
+way p false n ws b = E p n ws b
+way p true n ws b = U p n ws b

@@ -2,9 +2,10 @@
 use labyrinth::WorkingKey;
 ghost use mathlib.Core.Path.{_≡_};
 ghost use lib.ListN.{length};
+ghost use Rattle.forms.specs.Refusals.{outcome};
 ghost use Rattle.labyrinth.specs.Cipher.{article};
 ghost use Rattle.labyrinth.specs.Keys.{E, U};
-ghost use Rattle.labyrinth.specs.Refusals.{blockRefusal, outcome};
+ghost use Rattle.labyrinth.specs.Refusals.{blockRefusal};
 ghost use Rattle.labyrinth.specs.Working.{matrixParts, lineBytes, way};
 
 // Maps a block under a schedule, by a substitution s, its inverse u and a matrix m.
@@ -32,7 +33,7 @@ fn apply_matrix(
 // One way or the other by the published matrix.
 fn by_matrix(k: WorkingKey, back: bool, src: &[u8], dst: &mut [u8]) -> u8
     ensures number { λ r. ⌜ r ≡ blockRefusal (k .n) (length (now (src .entry))) (length (now (dst .entry))) ⌝ }
-    ensures block { λ r. ⌜ now (dst .exit) ≡ outcome r (way back (k .n) (k .words) (now (src .entry))) (now (dst .entry)) ⌝ }
+    ensures block { λ r. ⌜ now (dst .exit) ≡ outcome r (way article back (k .n) (k .words) (now (src .entry))) (now (dst .entry)) ⌝ }
 {
     let n = k.n;
     let m = mixing::matrix(tables::row());

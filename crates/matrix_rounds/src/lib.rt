@@ -3,16 +3,16 @@ use labyrinth::Halves;
 ghost use mathlib.Core.Path.{_≡_};
 ghost use Prim.Native.Nat.{_+_, _≤_, _<_};
 ghost use lib.ListN.{getD, length, take};
-ghost use Rattle.field.specs.Lists.{when};
-ghost use Rattle.field.specs.Words.{eachByte};
+ghost use Rattle.forms.specs.Lists.{when, wordsFrom};
+ghost use Rattle.forms.specs.Words.{eachByte};
 ghost use Rattle.field.specs.Substitution.{sub};
 ghost use Rattle.field.specs.Mixing.{mixBy};
 ghost use Rattle.labyrinth.specs.Blocks.{plus, zip};
-ghost use Rattle.labyrinth.specs.Cipher.{P, round as once, rounds as iterations};
+ghost use Rattle.labyrinth.specs.Cipher.{P};
+ghost use Rattle.labyrinth.specs.Cipher.{round as once, rounds as iterations};
 ghost use Rattle.labyrinth.specs.Keys.{half};
 ghost use Rattle.labyrinth.specs.Refusals.{legal};
-ghost use Rattle.labyrinth.specs.Working.{Size, wordsFrom, blockIn, laid};
-ghost use Rattle.labyrinth.specs.Working.{both, onBlock};
+ghost use Rattle.labyrinth.specs.Working.{Size, blockIn, laid, both, onBlock};
 
 // Word j of the permuted sum of the half-block x and the key words from a place on.
 fn perm_word(n: usize, x: &[u64; 4], ks: &[u64; 80], at: usize, j: usize) -> u64
@@ -24,7 +24,7 @@ fn perm_word(n: usize, x: &[u64; 4], ks: &[u64; 80], at: usize, j: usize) -> u64
     while b < 8 {
         let i = (j + b) % n;
         let y = std::num::wrapping_add_u64(x[i], ks[at + i]);
-        let v = arithmetic::byte_at(y, b) as u64;
+        let v = buffers::byte_at(y, b) as u64;
         r = (v << (8 * b)) | r;
         b += 1;
     }

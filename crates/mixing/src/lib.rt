@@ -4,8 +4,8 @@
 ghost use mathlib.Core.Path.{_≡_};
 ghost use Prim.Native.Nat.{_*_, _/_, _%_, _^_, _<_};
 ghost use lib.ListN.{getD};
-ghost use Rattle.field.specs.Lists.{tabulate, xorSum, iterate};
-ghost use Rattle.field.specs.Words.{eachByte};
+ghost use Rattle.forms.specs.Lists.{tabulate, xorSum, iterate};
+ghost use Rattle.forms.specs.Words.{eachByte};
 ghost use Rattle.field.specs.Field.{timesX};
 ghost use Rattle.field.specs.Substitution.{sub};
 ghost use Rattle.field.specs.Mixing as spec;
@@ -27,7 +27,7 @@ pub fn substitute_bytes(s: &[u8; 256], w: u64) -> u64
     let mut r = 0u64;
     let mut i = 0usize;
     while i < 8 {
-        let b = s[arithmetic::byte_at(w, i) as usize];
+        let b = s[buffers::byte_at(w, i) as usize];
         r = (wide(b) << (8 * i)) | r;
         i += 1;
     }
@@ -68,7 +68,7 @@ fn dot(row: [u8; 8], w: u64) -> u8
     let mut sum = 0u8;
     let mut j = 0usize;
     while j < 8 {
-        let p = arithmetic::times(arithmetic::byte_at(w, j), row[j]);
+        let p = arithmetic::times(buffers::byte_at(w, j), row[j]);
         sum = sum ^ p.value;
         j += 1;
     }
@@ -139,7 +139,7 @@ pub fn look_up(t: &[u64; 256], w: u64) -> u64
     let mut r = 0u64;
     let mut j = 0usize;
     while j < 8 {
-        r = r ^ arithmetic::rotate_left(t[arithmetic::byte_at(w, j) as usize], 8 * j);
+        r = r ^ arithmetic::rotate_left(t[buffers::byte_at(w, j) as usize], 8 * j);
         j += 1;
     }
     r

@@ -8,10 +8,10 @@ use native.Mathlib.Nat.{suc-mul, zero-mul, suc-add, zero-add, div-mul-le-self, m
 use native.Mathlib.Omega.{arith}
 use lib.ListN.{length, take, drop, length-append, take-append-drop}
 use lib.Seq.{take-at, drop-at, take-append-le, drop-append-le}
-use Rattle.labyrinth.proofs.Blocks.{Bytes, take-bytes, drop-bytes, append-bytes}
-use Rattle.modes.specs.Strings.{xorBytes, block}
+use Rattle.forms.specs.Strings.{xorBytes, block}
+use Rattle.forms.proofs.Bytes.{Bytes, take-bytes, drop-bytes, append-bytes}
+use Rattle.forms.proofs.Strings.{length-xorBytes, bytes-xorBytes, xorBytes-undo, whole-blocks, blocks-more, no-block, first-within, length-first, rest-within, length-rest, block-zero, block-suc, block-first, block-next}
 use Rattle.modes.specs.Cbc.{sealBlocks, openBlocks, cbcSeal, cbcOpen, before}
-use Rattle.modes.proofs.Strings.{length-xorBytes, bytes-xorBytes, xorBytes-undo, whole-blocks, blocks-more, no-block, first-within, length-first, rest-within, length-rest, block-zero, block-suc, block-first, block-next}
 use Rattle.modes.proofs.Maps.{Keeps, Undone}
 
 -- ---- block maps that agree

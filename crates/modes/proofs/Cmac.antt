@@ -12,13 +12,13 @@ use borrow.Author.Tests.{eq-eqb, ne-eqb, eqb-true, eqb-false}
 use lib.Dec.{eqb, ltb}
 use lib.ListN.{length, take, drop, set, replicate, length-append, length-drop, length-replicate, replicate-append-replicate}
 use lib.Seq.{set-at, take-all, drop-at, take-append-le, drop-append-le, length-take-le}
-use Rattle.field.specs.Lists.{when}
-use Rattle.labyrinth.proofs.Blocks.{Bytes}
-use Rattle.modes.specs.Strings.{xorBytes, number, string, same}
+use Rattle.forms.specs.Lists.{when}
+use Rattle.forms.specs.Strings.{xorBytes, number, string, same}
+use Rattle.forms.proofs.Bytes.{Bytes}
+use Rattle.forms.proofs.Strings.{length-xorBytes, length-shorter, take-xorBytes, xorBytes-comm, bytes-xorBytes, length-string, bytes-string, no-block, length-rest, first-within, same-refl, same-eq}
 use Rattle.modes.specs.Ctr.{blocks}
 use Rattle.modes.specs.Cbc.{sealBlocks, before}
 use Rattle.modes.specs.Cmac.{doubled, K1, K2, blockCount, pad, lastBlock, chain, mac, tag, valid}
-use Rattle.modes.proofs.Strings.{length-xorBytes, length-shorter, take-xorBytes, xorBytes-comm, bytes-xorBytes, length-string, bytes-string, no-block, length-rest, first-within, same-refl, same-eq}
 use Rattle.modes.proofs.Maps.{Keeps}
 use Rattle.modes.proofs.Cbc.{before-next}
 

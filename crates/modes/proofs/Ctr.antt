@@ -8,12 +8,12 @@ use native.Mathlib.Omega.{arith, min-cases}
 use lib.Arith.{digits-div}
 use lib.ListN.{length, take, drop, replicate, length-append, length-drop}
 use lib.Seq.{take-at, drop-at}
-use Rattle.field.specs.Lists.{tabulate}
-use Rattle.field.specs.Words.{byte, join}
-use Rattle.labyrinth.proofs.Blocks.{Bytes, append-bytes}
-use Rattle.modes.specs.Strings.{xorBytes, number, string, block}
+use Rattle.forms.specs.Lists.{tabulate}
+use Rattle.forms.specs.Words.{byte, join}
+use Rattle.forms.specs.Strings.{xorBytes, number, string, block}
+use Rattle.forms.proofs.Bytes.{Bytes, append-bytes}
+use Rattle.forms.proofs.Strings.{nil-xorBytes, length-xorBytes, bytes-xorBytes, xorBytes-undo, xorBytes-append, length-string, bytes-string, string-number, string-add, blocks-more, block-first, block-next, block-xorBytes}
 use Rattle.modes.specs.Ctr.{counter, keyStream, blocks, ctr}
-use Rattle.modes.proofs.Strings.{nil-xorBytes, length-xorBytes, bytes-xorBytes, xorBytes-undo, xorBytes-append, length-string, bytes-string, string-number, string-add, blocks-more, block-first, block-next, block-xorBytes}
 use Rattle.modes.proofs.Maps.{Keeps}
 
 -- ---- block maps that agree

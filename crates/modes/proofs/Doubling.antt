@@ -12,16 +12,16 @@ use lib.Bits.{bitXor, xor-mod, xor-shifted, xor-zero-l}
 use lib.Dec.{ltb, lit<}
 use lib.ListN.{length, getD}
 use lib.Pow.{pow-pos}
-use Rattle.field.specs.Lists.{tabulate, when, xorSum}
-use Rattle.field.specs.Words.{byte, join}
+use Rattle.forms.specs.Lists.{tabulate, when, xorSum}
+use Rattle.forms.specs.Words.{byte, join}
+use Rattle.forms.specs.Strings.{xorBytes, number, string}
+use Rattle.forms.proofs.Xor.{xors}
+use Rattle.forms.proofs.Bytes.{Bytes}
+use Rattle.forms.proofs.Strings.{number-first, number-lt, number-string, string-xor}
 use Rattle.field.specs.Field.{polyMul}
-use Rattle.field.proofs.Xor.{xors}
 use Rattle.field.proofs.Degree.{remainder-unique}
-use Rattle.labyrinth.proofs.Blocks.{Bytes}
-use Rattle.modes.specs.Strings.{xorBytes, number, string}
 use Rattle.modes.specs.Cmac.{doubled}
 use Rattle.modes.specs.Gf128.{modulus, Remainder}
-use Rattle.modes.proofs.Strings.{number-first, number-lt, number-string, string-xor}
 
 -- ---- the highest bit
 

@@ -1,5 +1,3 @@
-pub mod Strings
-pub mod Parts
 pub mod Maps
 pub mod Cbc
 pub mod Ctr
@@ -8,5 +6,3 @@ pub mod Cmac
 pub mod Refusals
 pub mod Again
 pub mod Used
-pub mod Lent
-pub mod Twice

@@ -1,14 +1,16 @@
--- What the modes need of a block map, and that the article's cipher has it.
+-- What the modes need of a block map, and that the cipher has it: by whatever is lent, by any parts, and each way undoing the other by
+-- sound ones.
 -- Assumes nothing.
 use mathlib.Core.Path.{_≡_, subst}
 use mathlib.Core.List.{List}
 use Prim.Native.Nat.{ℕ, _*_}
 use lib.ListN.{length}
-use Rattle.labyrinth.specs.Cipher.{article}
+use Rattle.forms.proofs.Bytes.{Bytes, Small}
+use Rattle.labyrinth.specs.Cipher.{Parts}
 use Rattle.labyrinth.specs.Keys.{E, U}
-use Rattle.labyrinth.proofs.Blocks.{Bytes, Small}
-use Rattle.labyrinth.proofs.Undo.{length-E, length-U, bytes-E, bytes-U}
-use Rattle.labyrinth.proofs.Operations.{article-U-E, article-E-U}
+use Rattle.labyrinth.specs.Lent.{lent}
+use Rattle.labyrinth.proofs.Undo.{Sound, U-E, E-U, length-E, length-U, bytes-E, bytes-U}
+use Rattle.labyrinth.proofs.Lent.{lent-length, lent-bytes}
 
 -- every result is a block of z bytes
 pub record Keeps (z : ℕ) (e : List ℕ → List ℕ) : Type 0 where
@@ -19,21 +21,26 @@ pub record Keeps (z : ℕ) (e : List ℕ → List ℕ) : Type 0 where
 pub record Undone (z : ℕ) (e u : List ℕ → List ℕ) : Type 0 where
   pub back : (b : List ℕ) → length b ≡ z → Bytes b → u (e b) ≡ b
 
--- ---- the article's cipher
+-- ---- the block map by what is lent
 
-module _ (n : ℕ) (ws : List ℕ) where
-  pub keeps-E : Keeps (16 * n) (E article n ws)
-  keeps-E = record { len = length-E article n ws; bytes = bytes-E article n ws }
+pub keeps-lent : (n : ℕ) (t s u ks : List ℕ) → Keeps (16 * n) (lent n t s u ks)
+keeps-lent n t s u ks = record { len = lent-length n t s u ks; bytes = lent-bytes n t s u ks }
 
-  pub keeps-U : Keeps (16 * n) (U article n ws)
-  keeps-U = record { len = length-U article n ws; bytes = bytes-U article n ws }
+-- ---- the cipher
 
-  pub undone-E : Small ws → Undone (16 * n) (E article n ws) (U article n ws)
-  undone-E h = record { back = λ b. article-U-E n ws b h }
+module _ (p : Parts) (n : ℕ) (ws : List ℕ) where
+  pub keeps-E : Keeps (16 * n) (E p n ws)
+  keeps-E = record { len = length-E p n ws; bytes = bytes-E p n ws }
 
-  pub undone-U : Small ws → Undone (16 * n) (U article n ws) (E article n ws)
-  undone-U h = record { back = λ b. article-E-U n ws b h }
+  pub keeps-U : Keeps (16 * n) (U p n ws)
+  keeps-U = record { len = length-U p n ws; bytes = bytes-U p n ws }
+
+  pub undone-E : Sound p → Small ws → Undone (16 * n) (E p n ws) (U p n ws)
+  undone-E s h = record { back = λ b. U-E p s n ws b h }
+
+  pub undone-U : Sound p → Small ws → Undone (16 * n) (U p n ws) (E p n ws)
+  undone-U s h = record { back = λ b. E-U p s n ws b h }
 
 -- at n = 1 a block has 16 bytes
-pub keeps-one : (n : ℕ) (ws : List ℕ) → n ≡ 1 → Keeps 16 (E article n ws)
-keeps-one n ws e = subst (λ (k : ℕ). Keeps (16 * k) (E article n ws)) e (keeps-E n ws)
+pub keeps-one : (p : Parts) (n : ℕ) (ws : List ℕ) → n ≡ 1 → Keeps 16 (E p n ws)
+keeps-one p n ws e = subst (λ (k : ℕ). Keeps (16 * k) (E p n ws)) e (keeps-E p n ws)

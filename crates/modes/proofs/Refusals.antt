@@ -6,10 +6,12 @@ use mathlib.Core.Logic.{inl, _↔_}
 use Prim.Native.Nat.{ℕ, _*_, _%_, _≤_, _<_}
 use borrow.Author.Tests.{eq-eqb, ne-eqb, eqb-true, leb-true, le-leb, lt-leb}
 use lib.Dec.{eqb, leb}
-use Rattle.labyrinth.specs.Refusals.{unless, legal}
+use Rattle.forms.specs.Refusals.{unless}
+use Rattle.forms.proofs.Refusals.{unless-zero}
+use Rattle.forms.proofs.Booleans.{OneOf, and-both}
+use Rattle.labyrinth.specs.Refusals.{legal}
 use Rattle.labyrinth.specs.Working.{Size}
-use Rattle.labyrinth.proofs.Refusals.{unless-zero, OneOf, legal-iff, legal-size-of}
-use Rattle.labyrinth.proofs.Ends.{and-both}
+use Rattle.labyrinth.proofs.Refusals.{legal-iff, legal-size-of}
 use Rattle.modes.specs.Refusals.{cbcLengths, ctrLengths, cmacLengths, cbcRefusal, ctrRefusal, cmacRefusal}
 
 -- a CBC run is taken exactly when n is 1, 2 or 4, the start block has 16n bytes, the source is whole blocks and the destination is as long

@@ -5,7 +5,7 @@
 use Prim.Native.Nat.{ℕ, zero, suc, _/_}
 use mathlib.Core.List.{List, [], _++_}
 use lib.ListN.{length, take, drop}
-use Rattle.modes.specs.Strings.{xorBytes, block}
+use Rattle.forms.specs.Strings.{xorBytes, block}
 
 -- m blocks sealed after the block c: C_j is e of P_j XOR C_(j-1)
 unfoldable pub sealBlocks : (List ℕ → List ℕ) → ℕ → ℕ → List ℕ → List ℕ → List ℕ

@@ -6,8 +6,8 @@ use mathlib.Core.Bool.{Bool}
 use mathlib.Core.List.{List, _∷_, _++_}
 use lib.Dec.{eqb, ltb}
 use lib.ListN.{length, take, drop, replicate}
-use Rattle.field.specs.Lists.{when}
-use Rattle.modes.specs.Strings.{xorBytes, number, string, same}
+use Rattle.forms.specs.Lists.{when}
+use Rattle.forms.specs.Strings.{xorBytes, number, string, same}
 use Rattle.modes.specs.Ctr.{blocks}
 
 -- 6.1, steps 2 and 3: X << 1, the highest bit dropped and a 0 put behind; and that XOR R_128, which is 0x87 (5.3), if the highest bit,

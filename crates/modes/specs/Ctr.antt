@@ -3,7 +3,7 @@
 use Prim.Native.Nat.{ℕ, zero, suc, _+_, _-_, _/_}
 use mathlib.Core.List.{List, [], _++_}
 use lib.ListN.{length}
-use Rattle.modes.specs.Strings.{xorBytes, number, string}
+use Rattle.forms.specs.Strings.{xorBytes, number, string}
 
 -- B.1: the counter block: the start block plus v, modulo 2 ^ (8z)
 unfoldable pub counter : ℕ → List ℕ → ℕ → List ℕ

@@ -1,4 +1,3 @@
-pub mod Strings
 pub mod Cbc
 pub mod Ctr
 pub mod Cmac

@@ -3,7 +3,8 @@
 use Prim.Native.Nat.{ℕ, _*_, _%_}
 use mathlib.Core.Bool.{_&&_}
 use lib.Dec.{eqb, leb}
-use Rattle.labyrinth.specs.Refusals.{unless, legal}
+use Rattle.forms.specs.Refusals.{unless}
+use Rattle.labyrinth.specs.Refusals.{legal}
 
 -- the lengths of a CBC run: 6 if the start block isn't 16n bytes, 4 if the source isn't whole blocks, 5 if the destination isn't as long
 unfoldable pub cbcLengths : ℕ → ℕ → ℕ → ℕ → ℕ
@@ -29,7 +30,3 @@ cmacLengths n tag = unless (eqb n 1) 12 (unless (leb 8 tag && leb tag 16) 11 0)
 -- CMAC, making and verifying: 1 if n is illegal, then 12 and 11
 unfoldable pub cmacRefusal : ℕ → ℕ → ℕ
 cmacRefusal n tag = unless (legal n) 1 (cmacLengths n tag)
-
--- two calls, the second only if the first was not refused
-unfoldable pub firstOf : ℕ → ℕ → ℕ
-firstOf first second = unless (eqb first 0) first second

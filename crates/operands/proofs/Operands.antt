@@ -1,7 +1,7 @@
 -- Laws of operands: bytes that are zero, and a word of 8 bytes that is mapped.
 -- Assumes nothing.
 use mathlib.Core.Path.{_≡_, refl, sym, ap, _∙_}
-use mathlib.Core.Bool.{Bool, true, false, _&&_, false≢true}
+use mathlib.Core.Bool.{true, false}
 use mathlib.Core.List.{List, [], _∷_, _++_, append-nil}
 use mathlib.Core.Logic.{_↔_}
 use Prim.Native.Nat.{ℕ, zero, suc, _+_, _≤_, _<_}
@@ -12,12 +12,13 @@ use borrow.Author.Tests.{eq-eqb, ne-eqb, eqb-true}
 use lib.Dec.{eqb}
 use lib.ListN.{length, getD, drop, drop-of-length-le}
 use lib.Seq.{drop-cons}
-use Rattle.field.specs.Lists.{tabulate}
-use Rattle.field.specs.Words.{byte, join}
-use Rattle.field.proofs.Words.{join-cong}
-use Rattle.labyrinth.specs.Blocks.{each, words, bytes}
+use Rattle.forms.specs.Lists.{tabulate}
+use Rattle.forms.specs.Words.{byte, join, words, bytes}
+use Rattle.forms.proofs.Booleans.{and-both}
+use Rattle.forms.proofs.Words.{join-cong}
 use Rattle.buffers.specs.Words.{wordAt, withWord}
 use Rattle.buffers.proofs.Words.{word-at, with-word}
+use Rattle.labyrinth.specs.Blocks.{each}
 use Rattle.operands.specs.Operands.{zeros}
 
 -- ---- as the code tests them, from byte i on
@@ -36,15 +37,11 @@ zeros-past s i h = ap zeros (drop-of-length-le s h)
 
 -- ---- in plain terms
 
-both-true : (a b : Bool) → (a && b) ≡ true → (a ≡ true) × (b ≡ true)
-both-true true b e = (refl, e)
-both-true false b e = absurd (false≢true e)
-
 zeros-down : (xs : List ℕ) → zeros xs ≡ true → (i : ℕ) → getD xs i 0 ≡ 0
 unfolding zeros
 zeros-down [] e i = refl
-zeros-down (x ∷ xs) e zero = eqb-true x 0 (both-true (eqb x 0) (zeros xs) e .0)
-zeros-down (x ∷ xs) e (suc i) = zeros-down xs (both-true (eqb x 0) (zeros xs) e .1) i
+zeros-down (x ∷ xs) e zero = eqb-true x 0 (and-both (eqb x 0) (zeros xs) e .0)
+zeros-down (x ∷ xs) e (suc i) = zeros-down xs (and-both (eqb x 0) (zeros xs) e .1) i
 
 zeros-up : (xs : List ℕ) → ((i : ℕ) → getD xs i 0 ≡ 0) → zeros xs ≡ true
 unfolding zeros

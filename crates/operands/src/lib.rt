@@ -1,8 +1,9 @@
 // What the tape's commands do to their operands: a word of 8 bytes is mixed, and unused bytes must be zero.
 ghost use mathlib.Core.Path.{_≡_};
+ghost use Rattle.forms.specs.Words.{words, bytes};
 ghost use Rattle.field.specs.Mixing.{mix};
 ghost use Rattle.field.specs.Published.{row};
-ghost use Rattle.labyrinth.specs.Blocks.{each, words, bytes};
+ghost use Rattle.labyrinth.specs.Blocks.{each};
 ghost use Rattle.operands.specs.Operands as spec;
 
 // Mixes the word of 8 bytes by the published row.

@@ -2,15 +2,18 @@
 -- Assumes nothing.
 use mathlib.Core.Path.{refl, sym}
 use Prim.Native.Nat.{zero, suc}
+use Rattle.forms.proofs.Refusals.{refused-keeps}
 use Rattle.field.specs.Published.{row}
 use Rattle.field.proofs.Mixing.{mix-xor, mix-rotl}
 use Rattle.field.proofs.Eight.{mix-row-eight}
+use Rattle.labyrinth.specs.Cipher.{article}
 use Rattle.labyrinth.specs.Refusals.{padded, expansion}
 use Rattle.labyrinth.proofs.Refusals.{block-iff, expand-iff}
-use Rattle.labyrinth.proofs.Operations.{refused-keeps, article-U-E, article-E-U}
-use Rattle.tape_run.proofs.Runs.{run-iff}
+use Rattle.labyrinth.proofs.Undo.{U-E, E-U}
+use Rattle.labyrinth.proofs.Agree.{article-sound}
 use Rattle.modes.proofs.Refusals.{cbc-iff, ctr-iff}
 use Rattle.modes.proofs.Again.{cbc-again, ctr-again}
+use Rattle.tape_run.proofs.Runs.{run-iff}
 use Rattle.promise.specs.Demands.{KeysTaken, BlocksTaken, CbcTaken, CtrTaken, TapesTaken, BuffersKept, KeysBlank, EAndUUndo, CbcOpensAgain, CtrOpensAgain, MixingOfXor, MixingRotated, MixingEightTimes}
 
 -- ---- demand 1
@@ -41,13 +44,13 @@ keys-blank SM n l key (suc number) h = refl
 -- ---- demand 3
 
 pub e-and-u-undo : EAndUUndo
-e-and-u-undo n ws b w l h = (article-U-E n ws b w l h, article-E-U n ws b w l h)
+e-and-u-undo n ws b w l h = (U-E article article-sound n ws b w l h, E-U article article-sound n ws b w l h)
 
 pub cbc-opens-again : CbcOpensAgain
-cbc-opens-again n ws start p sealed opened w hs hp taken again = cbc-again n ws start p sealed w hs hp refl taken
+cbc-opens-again n ws start p sealed opened w hs hp taken again = cbc-again article n ws start p sealed article-sound w hs hp refl taken
 
 pub ctr-opens-again : CtrOpensAgain
-ctr-opens-again n ws start q p sealed opened taken again = ctr-again n ws start p sealed q refl taken
+ctr-opens-again n ws start q p sealed opened taken again = ctr-again article n ws start p sealed q refl taken
 
 pub mixing-of-xor : MixingOfXor
 mixing-of-xor = mix-xor row

@@ -8,17 +8,17 @@ use contract.Lifetimes.{Lfts}
 use borrow.Author.Tests.{eq-eqb, eqb-true}
 use lib.ListN.{length}
 use Rattle.field.specs.Merged.{lookup}
+use Rattle.rows.proofs.Rows.{published-mixed}
 use Rattle.modes.specs.Refusals.{cbcRefusal, ctrRefusal, cmacRefusal}
 use Rattle.cmac.specs.declared.Verified.{Verified}
 use Rattle.promise.specs.Demands.{Steps, WorksTape, Expands, Enciphers, Deciphers, SealsCbc, OpensCbc, RunsCtr, ComesBack}
-use Rattle.rows.proofs.Rows.{published-mixed}
 use Rattle.promise.specs.Requests.{MakesTag, VerifiesTag, GetsYes, Multiplies, MixesBy, MixesAsBefore, MakesTable, MakesTheTableLent, LooksUp, FindsMixed, MultipliesRows, Inverts, ConvertsWord, Judges}
 use Rattle.promise.proofs.Requests.{looks-up, published-table}
 use Rattle.tape.proofs.step as tape-step
 use Rattle.tape_run.proofs.run as tape-run
 use Rattle.expansion.proofs.expand as expand
-use Rattle.cipher.proofs.encipher_by_table as encipher-by-table
-use Rattle.cipher.proofs.decipher_by_table as decipher-by-table
+use Rattle.table_cipher.proofs.encipher_by_table as encipher-by-table
+use Rattle.table_cipher.proofs.decipher_by_table as decipher-by-table
 use Rattle.matrix_cipher.proofs.encipher_by_matrix as encipher-by-matrix
 use Rattle.matrix_cipher.proofs.decipher_by_matrix as decipher-by-matrix
 use Rattle.cbc.proofs.seal as seal

@@ -9,24 +9,22 @@ use native.Mathlib.Omega.{arith}
 use borrow.Author.Tests.{leb-true, leb-false, eqb-true, eqb-false}
 use lib.Dec.{eqb, leb, leb→le}
 use lib.ListN.{length, getD, take, replicate}
-use Rattle.field.specs.Lists.{tabulate, xorSum, iterate}
-use Rattle.field.specs.Words.{byte, join, eachByte}
+use Rattle.forms.specs.Lists.{tabulate, xorSum, iterate}
+use Rattle.forms.specs.Words.{byte, join, eachByte, words, bytes}
+use Rattle.forms.specs.Refusals.{outcome, firstOf}
+use Rattle.forms.proofs.Tests.{tested-at}
+use Rattle.forms.proofs.Xor.{additive-zero}
+use Rattle.forms.proofs.Twice.{first-passed}
 use Rattle.field.specs.Field.{timesX, shift, mul, power}
 use Rattle.field.specs.Substitution.{sub}
 use Rattle.field.specs.Mixing.{element, matrix, dot, mixBy, mix, product, rowSum}
 use Rattle.field.specs.Merged.{merged}
 use Rattle.field.specs.Published.{table1, row}
-use Rattle.field.proofs.Tests.{at}
-use Rattle.field.proofs.Xor.{additive-zero}
 use Rattle.field.proofs.Mixing.{mix-xor, mix-rotl, mix-mix}
 use Rattle.field.proofs.Eight.{mix-eightfold}
+use Rattle.field.proofs.Substitution.{table1-undo}
 use Rattle.arithmetic.specs.BitLength.{bitLength}
 use Rattle.arithmetic.proofs.BitLength.{bitLength-leading, bitLength-iff}
-use Rattle.labyrinth.specs.Blocks.{each, words, bytes}
-use Rattle.labyrinth.specs.Cipher.{article}
-use Rattle.labyrinth.specs.Keys.{E}
-use Rattle.labyrinth.specs.Refusals.{legal, legalLength, outcome}
-use Rattle.labyrinth.proofs.Refusals.{legal-iff}
 use Rattle.rows.specs.declared.Mixed.{Mixed}
 use Rattle.rows.specs.declared.Inverted.{Inverted}
 use Rattle.rows.specs.Rows.{rowRefusal, tableRefusal, mixed}
@@ -35,21 +33,25 @@ use Rattle.rows.proofs.Rows.{row-zero, row-iff, table-zero, table-five, table-i
 use Rattle.rows.proofs.Ring.{product-comm, product-assoc, mix-order, mix-neutral, product-neutral}
 use Rattle.rows.proofs.Inverses.{inverse-row, product-inverse, only-inverse, no-inverse, mix-back, mix-forth, neutral-accepted, inverse-accepted, product-accepted, product-left, product-right, inverted-done, inverted-refused, published-inverse}
 use Rattle.judge.proofs.Verdicts.{one-verdict, zero-row-short, neutral-short, good-accepted, nine-at-most}
-use Rattle.modes.specs.Cmac.{K1, K2, tag}
-use Rattle.modes.specs.Refusals.{cmacRefusal, firstOf}
+use Rattle.labyrinth.specs.Blocks.{each}
+use Rattle.labyrinth.specs.Cipher.{article}
+use Rattle.labyrinth.specs.Keys.{E}
+use Rattle.labyrinth.specs.Refusals.{legal, legalLength}
+use Rattle.labyrinth.proofs.Refusals.{legal-iff}
 use Rattle.labyrinth.proofs.Agree.{E-used}
+use Rattle.modes.specs.Cmac.{K1, K2, tag}
+use Rattle.modes.specs.Refusals.{cmacRefusal}
 use Rattle.modes.proofs.Maps.{keeps-one}
 use Rattle.modes.proofs.Cmac.{length-doubled, bytes-doubled, valid-iff}
 use Rattle.modes.proofs.Doubling.{doubled-remainder, only-remainder}
 use Rattle.modes.proofs.Refusals.{cmac-iff, cmac-taken, cmac-large, cmac-short, cmac-long}
 use Rattle.modes.proofs.Used.{tag-used}
-use Rattle.modes.proofs.Twice.{first-passed}
-use Rattle.round_trips.proofs.Rows.{converted}
 use Rattle.cmac.specs.Verification.{verification}
+use Rattle.round_trips.proofs.Rows.{converted}
 use Rattle.operands.specs.Operands.{zeros}
-use Rattle.tape.specs.Steps.{keyRefusal, setKey, mapRefusal, mapBlock, mixWord, command, step}
-use Rattle.tape.proofs.Cases.{step-room, step-ended, step-empty}
-use Rattle.tape.proofs.Accepted.{Closed}
+use Rattle.tape_rules.specs.Steps.{keyRefusal, setKey, mapRefusal, mapBlock, mixWord, command, step}
+use Rattle.tape_rules.proofs.Cases.{step-room, step-ended, step-empty}
+use Rattle.tape_rules.proofs.Accepted.{Closed}
 use Rattle.tape_run.specs.Runs.{steps, tapeSteps, joined, tapeAnswers, lastRest, Ran}
 use Rattle.tape_run.proofs.Runs.{run-whole}
 use Rattle.tape_run.proofs.Endings.{last-eight, eight-trails, eight-once, copy-whole, copy-short}
@@ -60,7 +62,7 @@ use Rattle.promise.specs.Requests.{MasksDoubled, OneRemainder, YesExactl
 pub masks-doubled : MasksDoubled
 unfolding K1 K2
 masks-doubled ws =
-    let k = keeps-one 1 ws refl in (
+    let k = keeps-one article 1 ws refl in (
       doubled-remainder (E article 1 ws (replicate 16 0)) (k .len (replicate 16 0)) (k .bytes (replicate 16 0)),
       doubled-remainder (K1 (E article 1 ws)) (length-doubled _) (bytes-doubled _),
     )
@@ -78,13 +80,13 @@ yes-exactly n ws message given = go (cmacRefusal n (length given)) refl
     go : (r : ℕ) → cmacRefusal n (length given) ≡ r → (verification e message given r .yes ≡ true) ↔ ((r ≡ 0) × (given ≡ tag e (length given) message))
     go zero p =
         let t = cmac-taken n (length given) refl p in
-        let v = valid-iff e (keeps-one n ws (t .one)) message given (t .top) in
+        let v = valid-iff e (keeps-one article n ws (t .one)) message given (t .top) in
         (λ y. (refl, v .0 y), λ h. v .1 (h .1))
     go (suc r) p = (λ y. absurd (false≢true y), λ h. let f : ⊥ = omega (arith, h .0) in absurd f)
 
 pub tags-of-used-words : TagsOfUsedWords
 tags-of-used-words n ws vs h message given size number = (
-  tag-used n ws vs h size message,
+  tag-used article n ws vs h size message,
   ap (λ (e : List ℕ → List ℕ). verification e message given number) (fun-ext (E-used article n ws vs h)),
 )
 
@@ -167,7 +169,7 @@ short-told = copy-short
 
 pub short-coefficients : ShortCoefficients
 unfolding row bitLength
-short-coefficients i h = leb→le (bitLength 8 (getD row i 0)) 5 (at 8 (λ i. leb (bitLength 8 (getD row i 0)) 5) tt i h)
+short-coefficients i h = leb→le (bitLength 8 (getD row i 0)) 5 (tested-at 8 (λ i. leb (bitLength 8 (getD row i 0)) 5) tt i h)
 
 pub ends-after-highest-one : EndsAfterHighestOne
 ends-after-highest-one b h = (sym (bitLength-leading 8 b h), bitLength-iff 8 b h)
@@ -198,7 +200,7 @@ rotated-by-row g e w k hw hk = rw (by-mix g e) (mix-rotl g w k hw hk)
 pub looks-up : (g before after : List ℕ) {answer : ℕ} → MakesTable g answer before after → LooksUp g answer after
 looks-up g before after h z w =
     let e : rowRefusal g ≡ 0 = row-iff g .1 (table-iff g (length before) .0 (sym (h .0) ∙ z) .0) in
-    lookup-made g (h .1 ∙ ap (λ (r : ℕ). outcome r (merged g table1) before) z) w ∙ sym (ap (λ (f : ℕ → ℕ). f (eachByte (sub table1) w)) (by-mix g e))
+    lookup-made g table1 (table1-undo .there) (h .1 ∙ ap (λ (r : ℕ). outcome r (merged g table1) before) z) w ∙ sym (ap (λ (f : ℕ → ℕ). f (eachByte (sub table1) w)) (by-mix g e))
 
 pub published-table : (g before after : List ℕ) {answer : ℕ} {lent : List ℕ} → MakesTable g answer before after → lent ≡ merged row table1
     → MakesTheTableLent g before after lent

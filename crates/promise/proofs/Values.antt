@@ -1,16 +1,16 @@
 -- The starred values hold, all of them together, by computation.
 -- Assumes nothing.
 use mathlib.Core.Path.{refl}
-use Rattle.field.specs.Lists.{tabulate, xorSum}
-use Rattle.field.specs.Words.{byte, join, rotl, eachByte}
+use Rattle.forms.specs.Lists.{tabulate, xorSum}
+use Rattle.forms.specs.Words.{byte, join, rotl, eachByte, words, bytes}
+use Rattle.forms.specs.Strings.{number, string}
 use Rattle.field.specs.Field.{timesX, shift, mul, power}
 use Rattle.field.specs.Substitution.{sub, subInv}
 use Rattle.field.specs.Mixing.{element, matrix, dot, mixBy, mix}
 use Rattle.field.specs.Published.{table1, row, constants}
-use Rattle.labyrinth.specs.Blocks.{each, zip, words, bytes}
+use Rattle.labyrinth.specs.Blocks.{each, zip}
 use Rattle.labyrinth.specs.Cipher.{partsOf, article, P, SL, sigma, IMix}
 use Rattle.labyrinth.specs.Keys.{delta}
-use Rattle.modes.specs.Strings.{number, string}
 use Rattle.modes.specs.Ctr.{counter}
 use Rattle.promise.specs.Values.{from, values, Holds}
 

@@ -7,25 +7,26 @@ use mathlib.Core.List.{List}
 use Prim.Native.Nat.{ℕ, _*_, _%_, _^_, _≤_, _<_}
 use lib.Bits.{bitXor}
 use lib.ListN.{length, getD, replicate}
-use Rattle.field.specs.Lists.{iterate}
-use Rattle.field.specs.Words.{rotl}
+use Rattle.forms.specs.Lists.{over, iterate}
+use Rattle.forms.specs.Words.{rotl}
+use Rattle.forms.specs.Refusals.{outcome, firstOf}
 use Rattle.field.specs.Mixing.{mix, scale}
 use Rattle.field.specs.Published.{row}
 use Rattle.labyrinth.specs.declared.WorkingKey.{WorkingKey}
 use Rattle.labyrinth.specs.declared.Expanded.{Expanded}
 use Rattle.labyrinth.specs.Cipher.{article}
 use Rattle.labyrinth.specs.Keys.{E, U}
-use Rattle.labyrinth.specs.Refusals.{blockRefusal, expandRefusal, outcome, expansion}
-use Rattle.tape.specs.declared.Tape.{Tape}
-use Rattle.tape.specs.declared.Stepped.{Stepped}
-use Rattle.tape.specs.Steps.{step, over}
-use Rattle.tape.specs.Steps as tape
+use Rattle.labyrinth.specs.Refusals.{blockRefusal, expandRefusal, expansion}
+use Rattle.tape_rules.specs.declared.Tape.{Tape}
+use Rattle.tape_rules.specs.declared.Stepped.{Stepped}
+use Rattle.tape_rules.specs.Steps.{step}
+use Rattle.tape_rules.specs.Steps as tape
 use Rattle.tape_run.specs.declared.Answered.{Answered}
 use Rattle.tape_run.specs.Runs.{run}
 use Rattle.tape_run.specs.Runs as tape-run
 use Rattle.modes.specs.Cbc.{cbcSeal, cbcOpen}
 use Rattle.modes.specs.Ctr.{ctr}
-use Rattle.modes.specs.Refusals.{cbcRefusal, ctrRefusal, firstOf}
+use Rattle.modes.specs.Refusals.{cbcRefusal, ctrRefusal}
 
 -- n is 1, 2 or 4; l is 2, 3 or 4
 abbrev pub Legal : ℕ → Type 0

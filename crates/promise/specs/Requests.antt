@@ -8,8 +8,10 @@ use Prim.Native.Nat.{ℕ, _-_, _*_, _^_, _≤_, _<_}
 use lib.Bits.{bitXor}
 use lib.Count.{leadingZeros}
 use lib.ListN.{length, getD, take, drop, replicate}
-use Rattle.field.specs.Lists.{iterate}
-use Rattle.field.specs.Words.{rotl, eachByte}
+use Rattle.forms.specs.Lists.{iterate}
+use Rattle.forms.specs.Words.{rotl, eachByte}
+use Rattle.forms.specs.Refusals.{outcome, firstOf}
+use Rattle.forms.specs.Strings.{number}
 use Rattle.field.specs.Field.{mul, power, polyMul}
 use Rattle.field.specs.Substitution.{sub}
 use Rattle.field.specs.Mixing.{mix, product, rowSum, scale}
@@ -17,24 +19,22 @@ use Rattle.field.specs.Merged.{merged, lookup}
 use Rattle.field.specs.Published.{table1, row}
 use Rattle.arithmetic.specs.declared.Product.{Product}
 use Rattle.arithmetic.specs.BitLength.{bitLength}
-use Rattle.labyrinth.specs.declared.WorkingKey.{WorkingKey}
-use Rattle.labyrinth.specs.Cipher.{article}
-use Rattle.labyrinth.specs.Keys.{E}
-use Rattle.labyrinth.specs.Refusals.{outcome}
 use Rattle.rows.specs.declared.Mixed.{Mixed}
 use Rattle.rows.specs.declared.Inverted.{Inverted}
 use Rattle.rows.specs.Rows.{rowRefusal, tableRefusal, mixed}
 use Rattle.rows.specs.Inverse.{Row, neutral, inverseRow, inverted}
 use Rattle.judge.specs.declared.Verdict.{Verdict}
 use Rattle.judge.specs.Judge.{together, GoodEnough, FallsShort}
-use Rattle.modes.specs.Strings.{number}
+use Rattle.labyrinth.specs.declared.WorkingKey.{WorkingKey}
+use Rattle.labyrinth.specs.Cipher.{article}
+use Rattle.labyrinth.specs.Keys.{E}
 use Rattle.modes.specs.Cmac.{K1, K2, tag}
 use Rattle.modes.specs.Gf128.{Remainder}
-use Rattle.modes.specs.Refusals.{cmacRefusal, firstOf}
+use Rattle.modes.specs.Refusals.{cmacRefusal}
 use Rattle.cmac.specs.declared.Verified.{Verified}
 use Rattle.cmac.specs.Verification.{verification}
-use Rattle.tape.specs.declared.Tape.{Tape}
-use Rattle.tape.specs.Steps.{Answer, ended, step}
+use Rattle.tape_rules.specs.declared.Tape.{Tape}
+use Rattle.tape_rules.specs.Steps.{Answer, ended, step}
 use Rattle.tape_run.specs.Runs.{tapeSteps, tapeAnswers, lastAnswer, lastRest, run}
 use Rattle.promise.specs.Demands.{Legal}
 

@@ -5,12 +5,12 @@ use mathlib.Core.Path.{_≡_}
 use Prim.Native.Nat.{ℕ}
 use mathlib.Core.List.{List, [], _∷_}
 use lib.ListN.{getD, replicate}
-use Rattle.field.specs.Lists.{tabulate}
+use Rattle.forms.specs.Lists.{tabulate}
+use Rattle.forms.specs.Words.{words, bytes}
 use Rattle.field.specs.Substitution.{sub, subInv}
 use Rattle.field.specs.Field.{mul, power}
 use Rattle.field.specs.Mixing.{mix}
 use Rattle.field.specs.Published.{table1, row}
-use Rattle.labyrinth.specs.Blocks.{words, bytes}
 use Rattle.labyrinth.specs.Cipher.{article, P, SL, IMix}
 use Rattle.labyrinth.specs.Keys.{delta}
 use Rattle.modes.specs.Ctr.{counter}

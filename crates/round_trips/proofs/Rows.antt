@@ -6,11 +6,11 @@ use mathlib.Core.List.{List}
 use Prim.Native.Nat.{ℕ, _^_, _<_}
 use borrow.Author.Tests.{eqb-true, eqb-false}
 use lib.Dec.{eqb}
-use Rattle.field.specs.Lists.{xorSum}
+use Rattle.forms.specs.Lists.{xorSum}
+use Rattle.forms.specs.Refusals.{firstOf}
+use Rattle.forms.proofs.Twice.{first-refused, first-passed}
 use Rattle.field.specs.Mixing.{mix, product, rowSum}
 use Rattle.field.proofs.Mixing.{mix-mix}
-use Rattle.modes.specs.Refusals.{firstOf}
-use Rattle.modes.proofs.Twice.{first-refused, first-passed}
 use Rattle.rows.specs.declared.Mixed.{Mixed}
 use Rattle.rows.specs.declared.Inverted.{Inverted}
 use Rattle.rows.specs.Rows.{rowRefusal, mixed}

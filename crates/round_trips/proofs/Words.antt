@@ -7,7 +7,7 @@ use mir.Val.{Val}
 use denote.Array.{each}
 use denote.Builtin.{u64}
 use denote.Shadow.{shadow}
-use Rattle.labyrinth.proofs.Blocks.{Small}
+use Rattle.forms.proofs.Bytes.{Small}
 
 -- each element of a record's array of words is one
 pub words-small : (ws : List ℕ) (vs : List Val) → shadow (each ℕ (u64 .own) (map (λ (w : ℕ). w) ws) vs) → Small ws

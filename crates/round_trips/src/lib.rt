@@ -7,14 +7,14 @@ ghost use mathlib.Core.Path.{_≡_};
 ghost use Prim.Native.Nat.{_*_};
 ghost use lib.Dec.{eqb};
 ghost use lib.ListN.{length};
+ghost use Rattle.forms.specs.Refusals.{outcome, firstOf};
+ghost use Rattle.rows.specs.Rows.{rowRefusal, mixed};
 ghost use Rattle.labyrinth.specs.Cipher.{article};
 ghost use Rattle.labyrinth.specs.Keys.{E};
-ghost use Rattle.labyrinth.specs.Refusals.{outcome};
 ghost use Rattle.modes.specs.Cbc.{cbcSeal};
 ghost use Rattle.modes.specs.Ctr.{ctr as ctrRun};
 ghost use Rattle.modes.specs.Cmac.{tag as madeTag};
-ghost use Rattle.modes.specs.Refusals.{cbcRefusal, ctrRefusal, cmacRefusal, firstOf};
-ghost use Rattle.rows.specs.Rows.{rowRefusal, mixed};
+ghost use Rattle.modes.specs.Refusals.{cbcRefusal, ctrRefusal, cmacRefusal};
 
 // Seals src to mid and, if that was not refused, opens mid to dst: then dst holds what src holds.
 pub fn cbc_there_and_back(

@@ -6,8 +6,8 @@ use Prim.Native.Nat.{ℕ, zero, suc, _^_, _<_}
 use native.Mathlib.Nat.{pos-of-ne-zero}
 use native.Mathlib.Omega.{arith}
 use lib.ListN.{replicate}
-use Rattle.field.specs.Lists.{tabulate, xorSum, pick, iterate}
-use Rattle.field.specs.Words.{byte}
+use Rattle.forms.specs.Lists.{tabulate, xorSum, pick, iterate}
+use Rattle.forms.specs.Words.{byte}
 use Rattle.field.specs.Field.{timesX, shift, mul, power}
 use Rattle.field.specs.Mixing.{mix, product, rowSum, scale}
 use Rattle.field.specs.Published.{row}

@@ -13,21 +13,21 @@ use denote.Plain.{UInt}
 use denote.Array.{Array}
 use borrow.Kind.Array.{good-length, eInt}
 use borrow.Author.Needs.{elem-fits}
-use Rattle.field.specs.Lists.{tabulate, xorSum, pick, iterate}
-use Rattle.field.specs.Words.{byte, join}
+use Rattle.forms.specs.Lists.{tabulate, xorSum, pick, iterate}
+use Rattle.forms.specs.Words.{byte, join}
+use Rattle.forms.proofs.Lists.{length-tabulate, tabulate-cong, tabulated}
+use Rattle.forms.proofs.Sums.{xorSum-cong, xorSum-lt, additive-xorSum, xorSum-swap, xorSum-cycle}
+use Rattle.forms.proofs.Words.{byte-lt, join-lt, join-cong, byte-join, word-ext}
+use Rattle.forms.proofs.Bytes.{tabulate-small}
+use Rattle.buffers.specs.Words.{wordAt}
+use Rattle.buffers.proofs.Words.{word-at}
 use Rattle.field.specs.Field.{mul, power}
 use Rattle.field.specs.Mixing.{mix, product, rowSum, scale}
-use Rattle.field.proofs.Lists.{length-tabulate, tabulate-cong, tabulated}
-use Rattle.field.proofs.Sums.{xorSum-cong, xorSum-lt, into, xorSum-swap, cycle}
-use Rattle.field.proofs.Words.{byte-lt, join-lt, join-cong, byte-join, word-ext}
 use Rattle.field.proofs.Field.{mul-xor-l, mul-xor-r, mul-assoc, mul-lt, one-mul, mul-one, zero-mul}
 use Rattle.field.proofs.Power.{power-lt}
 use Rattle.field.proofs.Scale.{scale-lt, byte-scale}
 use Rattle.field.proofs.Mixing.{conv, conv-comm, product-conv, getD-product, mix-product, mix-mix}
 use Rattle.field.proofs.Eight.{single, mix-single, mix-eightfold}
-use Rattle.labyrinth.proofs.Blocks.{tabulate-small}
-use Rattle.buffers.specs.Words.{wordAt}
-use Rattle.buffers.proofs.Words.{word-at}
 use Rattle.rows.specs.Inverse.{Row, constantRow, neutral, rowPower}
 
 -- ---- rows and words
@@ -135,8 +135,8 @@ sum-product g h =
     xorSum-cong 8 (λ i. getD (product g h) i 0) (λ i. xorSum 8 (each i)) (getD-product g h)
     ∙ xorSum-swap 8 8 each
     ∙ xorSum-cong 8 (λ j. xorSum 8 (λ i. each i j)) (λ j. mul (g′ j) (xorSum 8 h′))
-    (λ j l. sym (into (mul (g′ j)) (mul-xor-r (g′ j)) 8 (λ i. h′ ((i + 8 - j) % 8))) ∙ ap (mul (g′ j)) (round j l))
-    ∙ sym (into (λ x. mul x (xorSum 8 h′)) (λ x y. mul-xor-l x y (xorSum 8 h′)) 8 g′)
+    (λ j l. sym (additive-xorSum (mul (g′ j)) (mul-xor-r (g′ j)) 8 (λ i. h′ ((i + 8 - j) % 8))) ∙ ap (mul (g′ j)) (round j l))
+    ∙ sym (additive-xorSum (λ x. mul x (xorSum 8 h′)) (λ x y. mul-xor-l x y (xorSum 8 h′)) 8 g′)
   where
     g′ : ℕ → ℕ
     g′ k = getD g k 0
@@ -150,7 +150,7 @@ sum-product g h =
     round : (j : ℕ) → j < 8 → xorSum 8 (λ i. h′ ((i + 8 - j) % 8)) ≡ xorSum 8 h′
     round j l =
         xorSum-cong 8 (λ i. h′ ((i + 8 - j) % 8)) (λ i. h′ ((8 - j + i) % 8)) (λ i m. ap h′ (omega arith))
-        ∙ cycle 7 (λ t. h′ (t % 8)) (λ t. ap h′ (omega arith)) (8 - j)
+        ∙ xorSum-cycle 7 (λ t. h′ (t % 8)) (λ t. ap h′ (omega arith)) (8 - j)
         ∙ xorSum-cong 8 (λ t. h′ (t % 8)) h′ (λ t m. ap h′ (omega arith))
 
 pub sum-lt : (g : List ℕ) → Row g → rowSum g < 2 ^ 8

@@ -1,23 +1,23 @@
 -- What the refusals say in plain terms; the answer for the published row; look-up in a table that was made.
 -- Assumes nothing.
 use mathlib.Core.Path.{_≡_, refl, ap, _∙_}
-use mathlib.Core.Bool.{true, false, not}
+use mathlib.Core.Bool.{Bool, true, false, not}
 use mathlib.Core.Logic.{_↔_}
 use mathlib.Core.List.{List}
 use Prim.Native.Nat.{ℕ, zero, suc}
 use native.Mathlib.Omega.{arith}
 use borrow.Author.Tests.{eq-eqb, ne-eqb, eqb-true, eqb-false, not-true}
 use lib.Dec.{eqb}
-use Rattle.field.specs.Lists.{xorSum}
-use Rattle.field.specs.Words.{eachByte}
+use Rattle.forms.specs.Lists.{xorSum}
+use Rattle.forms.specs.Words.{eachByte}
+use Rattle.forms.specs.Refusals.{unless}
+use Rattle.forms.proofs.Refusals.{unless-zero}
+use Rattle.forms.proofs.Words.{OnBytes}
 use Rattle.field.specs.Substitution.{sub}
 use Rattle.field.specs.Mixing.{mix, rowSum}
 use Rattle.field.specs.Merged.{merged, lookup}
-use Rattle.field.specs.Published.{table1, row}
-use Rattle.field.proofs.Substitution.{table1-undo}
+use Rattle.field.specs.Published.{row}
 use Rattle.field.proofs.Merged.{lookup-merged}
-use Rattle.labyrinth.specs.Refusals.{unless}
-use Rattle.labyrinth.proofs.Refusals.{unless-zero}
 use Rattle.rows.specs.declared.Mixed.{Mixed}
 use Rattle.rows.specs.Rows.{accepted, rowRefusal, tableRefusal, mixed}
 
@@ -43,10 +43,18 @@ pub row-iff : (g : List ℕ) → (rowRefusal g ≡ 0) ↔ (rowSum g ≡ 0 → �
 unfolding rowRefusal
 row-iff g = (λ e. not-zero g (unless-zero (accepted g) 12 0 e .0), λ h. rw (taken g h))
 
--- making the table: 13 exactly there too, then 5 exactly where the buffer isn't 256 words
+-- making the table: 13 exactly there too, so the row's number, then 5 exactly where the buffer isn't 256 words
 pub table-zero : (g : List ℕ) (room : ℕ) → rowSum g ≡ 0 → tableRefusal g room ≡ 13
 unfolding tableRefusal
 table-zero g room e = rw (turned-away g e)
+
+pub table-refused : (g : List ℕ) (room : ℕ) {r : ℕ} → r ≡ rowRefusal g → (r ≡ 0 → ⊥) → r ≡ tableRefusal g room
+unfolding rowRefusal tableRefusal
+table-refused g room e h = e ∙ either (accepted g) (λ z. h (e ∙ z))
+  where
+    either : (b : Bool) → (unless b 13 0 ≡ 0 → ⊥) → unless b 13 0 ≡ unless b 13 (unless (eqb room 256) 5 0)
+    either true z = absurd (z refl)
+    either false z = refl
 
 pub table-five : (g : List ℕ) (room : ℕ) → (rowSum g ≡ 0 → ⊥) → (room ≡ 256 → ⊥) → tableRefusal g room ≡ 5
 unfolding tableRefusal
@@ -87,7 +95,7 @@ published-mixed w e p = p ∙ ap (λ (r : List ℕ). mixed r w (rowRefusal r)) e
 pub published-word : (w : ℕ) {g : List ℕ} {m : Mixed} → g ≡ row → m ≡ mixed g w (rowRefusal g) → m .word ≡ mix row w
 published-word w e p = ap (λ (m : Mixed). m .word) (published-mixed w e p)
 
--- ---- look-up in a table made for a row is mixing, by that row, of the substituted word
+-- ---- look-up in a table made for a row and a substitution is mixing, by that row, of the substituted word
 
-pub lookup-made : (g : List ℕ) {t : List ℕ} → t ≡ merged g table1 → (w : ℕ) → lookup t w ≡ mix g (eachByte (sub table1) w)
-lookup-made g e w = ap (λ (t : List ℕ). lookup t w) e ∙ lookup-merged g table1 (table1-undo .there) w
+pub lookup-made : (g s : List ℕ) → OnBytes (sub s) → {t : List ℕ} → t ≡ merged g s → (w : ℕ) → lookup t w ≡ mix g (eachByte (sub s) w)
+lookup-made g s onBytes e w = ap (λ (t : List ℕ). lookup t w) e ∙ lookup-merged g s onBytes w

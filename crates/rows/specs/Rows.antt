@@ -5,8 +5,8 @@ use Prim.Native.Nat.{ℕ, zero, suc}
 use mathlib.Core.Bool.{Bool, not}
 use mathlib.Core.List.{List}
 use lib.Dec.{eqb}
+use Rattle.forms.specs.Refusals.{unless}
 use Rattle.field.specs.Mixing.{mix, rowSum}
-use Rattle.labyrinth.specs.Refusals.{unless}
 use Rattle.rows.specs.declared.Mixed.{Mixed}
 
 -- the coefficients don't XOR to zero

@@ -2,13 +2,13 @@
 // inverse row. The field stays 12D. A row whose coefficients XOR to zero gets 13; the product takes any rows.
 ghost use mathlib.Core.Path.{_≡_};
 ghost use lib.ListN.{length};
-ghost use Rattle.field.specs.Lists.{tabulate, iterate};
-ghost use Rattle.field.specs.Words.{byte};
+ghost use Rattle.forms.specs.Lists.{tabulate, iterate};
+ghost use Rattle.forms.specs.Words.{byte};
 ghost use Rattle.field.specs.Mixing as spec;
+ghost use Rattle.forms.specs.Refusals.{outcome};
 ghost use Rattle.field.specs.Mixing.{rowSum};
 ghost use Rattle.field.specs.Merged.{merged};
 ghost use Rattle.field.specs.Published.{table1};
-ghost use Rattle.labyrinth.specs.Refusals.{outcome};
 ghost use Rattle.rows.specs.Rows.{rowRefusal, tableRefusal, mixed};
 ghost use Rattle.rows.specs.Inverse.{inverted};
 
@@ -25,6 +25,16 @@ fn row_sum(g: [u8; 8]) -> u8
     sum
 }
 
+// The number for a row: 13 if its coefficients XOR to zero.
+pub fn row_refusal(g: [u8; 8]) -> u8
+    ensures { λ r. ⌜ r ≡ rowRefusal g ⌝ }
+{
+    if row_sum(g) == 0 {
+        return 13;
+    }
+    0
+}
+
 // What mixing answers: the number, and the mixed word, or the zero word on a refusal.
 pub struct Mixed {
     pub number: u8,
@@ -35,9 +45,10 @@ pub struct Mixed {
 pub fn mix(g: [u8; 8], w: u64) -> Mixed
     ensures { λ r. ⌜ r ≡ mixed g w (rowRefusal g) ⌝ }
 {
-    if row_sum(g) == 0 {
+    let number = row_refusal(g);
+    if number != 0 {
         return Mixed {
-            number: 13,
+            number: number,
             word: 0,
         };
     }
@@ -60,13 +71,23 @@ fn fill(g: [u8; 8], s: &[u8; 256], table: &mut [u64])
     }
 }
 
+// The merged table of any row and substitution.
+pub fn table_of(g: [u8; 8], s: &[u8; 256]) -> [u64; 256]
+    ensures { λ r. ⌜ r ≡ merged g (now (s .entry)) ⌝ }
+{
+    let mut t = [0u64; 256];
+    fill(g, s, &mut t);
+    t
+}
+
 // Makes the merged table of a row and the published substitution.
 pub fn make_table(g: [u8; 8], table: &mut [u64]) -> u8
     ensures number { λ r. ⌜ r ≡ tableRefusal g (length (now (table .entry))) ⌝ }
     ensures table { λ r. ⌜ now (table .exit) ≡ outcome r (merged g table1) (now (table .entry)) ⌝ }
 {
-    if row_sum(g) == 0 {
-        return 13;
+    let number = row_refusal(g);
+    if number != 0 {
+        return number;
     }
     if table.len() != 256 {
         return 5;

@@ -1,8 +1,8 @@
 // The refusals of the runs and of tags. Their definitions are those of modes.
-mod chaining;
-mod counting;
-mod tagging;
+mod cbc;
+mod cmac;
+mod ctr;
 
-pub use chaining::cbc_refusal;
-pub use counting::ctr_refusal;
-pub use tagging::cmac_refusal;
+pub use cbc::cbc_refusal;
+pub use cmac::cmac_refusal;
+pub use ctr::ctr_refusal;

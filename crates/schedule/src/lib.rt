@@ -5,8 +5,9 @@ ghost use mathlib.Core.Path.{_≡_};
 ghost use mathlib.Core.List.{_++_};
 ghost use Prim.Native.Nat.{_+_, _≤_, _<_};
 ghost use lib.ListN.{length, getD, take, drop};
+ghost use Rattle.forms.specs.Lists.{wordsFrom};
 ghost use Rattle.labyrinth.specs.Keys.{order as roundOrder};
-ghost use Rattle.labyrinth.specs.Working.{Size, wordsFrom, useOrder};
+ghost use Rattle.labyrinth.specs.Working.{Size, useOrder};
 ghost use Rattle.labyrinth.specs.Working.{schedule as laidOut};
 
 // The subkey numbers of the sixteen rounds.

@@ -7,10 +7,10 @@ use native.Mathlib.Nat.{add-zero, one-mul, mul-add, mul-assoc}
 use native.Mathlib.Omega.{arith}
 use lib.ListN.{length, getD, take, drop, set, length-set, take-append-drop}
 use lib.Seq.{take-suc, drop-cons, drop-set-lt, take-set-le, take-take, getD-set-same, take-length, drop-length, length-take-le}
-use Rattle.field.specs.Lists.{tabulate}
-use Rattle.labyrinth.proofs.Blocks.{Bytes, take-bytes}
-use Rattle.modes.specs.Strings.{number, string}
-use Rattle.modes.proofs.Strings.{number-snoc, string-suc, string-number}
+use Rattle.forms.specs.Lists.{tabulate}
+use Rattle.forms.specs.Strings.{number, string}
+use Rattle.forms.proofs.Bytes.{Bytes, take-bytes}
+use Rattle.forms.proofs.Strings.{number-snoc, string-suc, string-number}
 
 -- what is to become of c, k times itself and more, where the carry stands before its byte i
 abbrev pub scaled : ℕ → List ℕ → ℕ → ℕ → List ℕ

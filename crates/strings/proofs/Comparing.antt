@@ -11,9 +11,10 @@ use lib.Bits.{bitOr, bitXor, or-zero-l, or-add-and, and-le-r, xor-self}
 use lib.Dec.{eqb}
 use lib.ListN.{length, getD, drop, drop-of-length-le}
 use lib.Seq.{drop-cons}
-use Rattle.field.proofs.Xor.{xor-zero}
-use Rattle.modes.specs.Strings.{same}
-use Rattle.modes.proofs.Strings.{same-eq}
+use Rattle.forms.specs.Strings.{same}
+use Rattle.forms.proofs.Booleans.{and-assoc, and-true}
+use Rattle.forms.proofs.Xor.{xor-zero}
+use Rattle.forms.proofs.Strings.{same-eq}
 
 -- strings of two lengths
 pub same-not : (a b : List ℕ) → (length a ≡ length b → ⊥) → false ≡ same a b
@@ -38,10 +39,6 @@ or-test (suc d) z =
     let more : suc d ≡ 0 → ⊥ = λ e. omega arith in
     ne-eqb (bitOr (suc d) z) 0 some ∙ sym (ap (λ (t : Bool). t && eqb z 0) (ne-eqb (suc d) 0 more))
 
-and-assoc : (p q r : Bool) → ((p && q) && r) ≡ (p && (q && r))
-and-assoc true q r = refl
-and-assoc false q r = refl
-
 module _ (a b : List ℕ) (i d : ℕ) where
   -- nothing differed before byte i, and from there on the strings are the same
   abbrev pub compared : Bool
@@ -61,7 +58,3 @@ pub compared-all : (a b : List ℕ) (i d : ℕ) → length a ≤ i → length b 
 unfolding same
 compared-all a b i d h k =
     ap₂ (λ (p q : List ℕ). eqb d 0 && same p q) (drop-of-length-le a {i = i} h) (drop-of-length-le b {i = i} k) ∙ and-true (eqb d 0)
-  where
-    and-true : (t : Bool) → (t && true) ≡ t
-    and-true true = refl
-    and-true false = refl

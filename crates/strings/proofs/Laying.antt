@@ -9,15 +9,15 @@ use native.Mathlib.Omega.{arith, min-cases}
 use lib.Bits.{bitXor}
 use lib.ListN.{length, getD, take, drop, set, replicate, length-append, length-take, length-drop, length-replicate, drop-of-length-le}
 use lib.Seq.{paste-suc, take-all, take-append-seam, take-add, take-at, drop-at, drop-drop, length-take-le, getD-take, getD-drop}
-use Rattle.field.specs.Lists.{tabulate}
-use Rattle.field.specs.Words.{byte}
-use Rattle.field.proofs.Lists.{tabulated}
-use Rattle.field.proofs.Words.{byte-xor, byte-join}
-use Rattle.labyrinth.proofs.Blocks.{Bytes}
+use Rattle.forms.specs.Lists.{tabulate}
+use Rattle.forms.specs.Words.{byte}
+use Rattle.forms.specs.Strings.{xorBytes}
+use Rattle.forms.proofs.Lists.{tabulated}
+use Rattle.forms.proofs.Words.{byte-xor, byte-join}
+use Rattle.forms.proofs.Bytes.{Bytes}
+use Rattle.forms.proofs.Strings.{length-xorBytes, getD-xorBytes}
 use Rattle.buffers.specs.Words.{wordAt, withWord}
 use Rattle.buffers.proofs.Words.{word-at, with-word}
-use Rattle.modes.specs.Strings.{xorBytes}
-use Rattle.modes.proofs.Strings.{length-xorBytes, getD-xorBytes}
 
 -- ---- the first i bytes of xs, and d from there on
 
@@ -96,11 +96,11 @@ pub copy-front : (d s : List ℕ) {r : List ℕ} → r ≡ take (length d) s ++ 
 copy-front d s e h =
     ap (take (length s)) (e ∙ ap (λ (x : List ℕ). x ++ drop (length s) d) (take-all (length d) s h)) ∙ take-append-seam s (drop (length s) d)
 
--- so in a room for a block
-pub room-front : (s : List ℕ) {r : List ℕ} → length s ≤ 64 → r ≡ take 64 s ++ drop (length s) (replicate 64 0) → take (length s) r ≡ s
-room-front s h e = copy-front (replicate 64 0) s e h
+-- so in the 64 bytes for a block
+pub block-copy-front : (s : List ℕ) {r : List ℕ} → length s ≤ 64 → r ≡ take 64 s ++ drop (length s) (replicate 64 0) → take (length s) r ≡ s
+block-copy-front s h e = copy-front (replicate 64 0) s e h
 
-pub room-length : (s : List ℕ) {r : List ℕ} → length s ≤ 64 → r ≡ take 64 s ++ drop (length s) (replicate 64 0) → length r ≡ 64
-room-length s h e =
+pub block-copy-length : (s : List ℕ) {r : List ℕ} → length s ≤ 64 → r ≡ take 64 s ++ drop (length s) (replicate 64 0) → length r ≡ 64
+block-copy-length s h e =
     ap length e ∙ length-append (take 64 s) (drop (length s) (replicate 64 0))
     ∙ omega (arith, length-take 64 s, length-drop {A = ℕ} (length s) (replicate 64 0), length-replicate {A = ℕ} 64 0)

@@ -1,9 +1,9 @@
-// Operations on byte strings that the modes are made of, for strings of any lengths, and room for a block.
+// Operations on byte strings that the modes are made of, for strings of any lengths, and buffers for a block of any size.
 ghost use mathlib.Core.Path.{_≡_};
 ghost use mathlib.Core.List.{_++_};
 ghost use Prim.Native.Nat.{_+_, _*_, _≤_, min};
 ghost use lib.ListN.{length, take, drop, replicate};
-ghost use Rattle.modes.specs.Strings.{xorBytes, number, string, same};
+ghost use Rattle.forms.specs.Strings.{xorBytes, number, string, same};
 
 // The lesser of two lengths.
 fn lesser(a: usize, b: usize) -> usize
@@ -19,8 +19,8 @@ fn wide(x: u8) -> u64
     x as u64
 }
 
-// Room for a block.
-pub fn room() -> [u8; 64]
+// 64 bytes 0, for a block of any size.
+pub fn zero_block() -> [u8; 64]
     ensures long { λ r. ⌜ 64 ≡ length r ⌝ }
     ensures zeros { λ r. ⌜ r ≡ replicate 64 0 ⌝ }
 {
@@ -39,8 +39,8 @@ pub fn copy_into(d: &mut [u8], s: &[u8])
     }
 }
 
-// A block at the front of a room, zeros behind it; of a longer string the first 64 bytes.
-pub fn in_room(block: &[u8]) -> [u8; 64]
+// A block at the front of 64 bytes, zeros behind it; of a longer string the first 64 bytes.
+pub fn block_copy(block: &[u8]) -> [u8; 64]
     ensures { λ r. ⌜ r ≡ take 64 (now (block .entry)) ++ drop (length (now (block .entry))) (replicate 64 0) ⌝ }
 {
     let mut r = [0u8; 64];

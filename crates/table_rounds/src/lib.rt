@@ -10,17 +10,16 @@ ghost use mathlib.Core.List.{_++_};
 ghost use Prim.Native.Nat.{_+_, _*_, _%_, _≤_, _<_};
 ghost use lib.Bits.{bitXor};
 ghost use lib.ListN.{getD, length, take, drop};
-ghost use Rattle.field.specs.Lists.{when};
-ghost use Rattle.field.specs.Words.{byte, rotl};
+ghost use Rattle.forms.specs.Lists.{when, wordsFrom};
+ghost use Rattle.forms.specs.Words.{byte, rotl};
 ghost use Rattle.field.specs.Merged.{lookup};
 ghost use Rattle.field.specs.Published as published;
 ghost use Rattle.labyrinth.specs.Blocks.{plus, zip};
-ghost use Rattle.labyrinth.specs.Cipher.{P, F, round as once, rounds as iterations};
+ghost use Rattle.labyrinth.specs.Cipher.{P, F};
+ghost use Rattle.labyrinth.specs.Cipher.{round as once, rounds as iterations};
 ghost use Rattle.labyrinth.specs.Keys.{half};
 ghost use Rattle.labyrinth.specs.Refusals.{legal};
-ghost use Rattle.labyrinth.specs.Working.{Size, wordsFrom, blockIn, laid};
-ghost use Rattle.labyrinth.specs.Working.{both, onBlock};
-ghost use Rattle.labyrinth.specs.Working.{lendable, wide, tableWords, share, lookupIn};
+ghost use Rattle.labyrinth.specs.Working.{Size, blockIn, laid, both, onBlock, lendable, wide, tableWords, share, lookupIn};
 
 // Byte k of a word, as a place in a table.
 fn place(w: u64, k: usize) -> usize

@@ -1,44 +1,20 @@
-// The command tape: one step, by value. The definition is specs/Steps.antt, which follows document 01 rule by rule.
+// The command tape: one step, by value. The definition is crates/tape_rules/specs/Steps.antt.
 use labyrinth::WorkingKey;
+use tape_rules::Stepped;
+use tape_rules::Tape;
 ghost use mathlib.Core.Path.{_≡_};
 ghost use mathlib.Core.List.{[], _∷_};
 ghost use Prim.Native.Nat.{_*_, _<_};
 ghost use lib.ListN.{length, getD};
+ghost use Rattle.forms.specs.Lists.{over};
+ghost use Rattle.labyrinth.specs.Cipher.{article};
 ghost use Rattle.labyrinth.specs.Working.{Size, way};
-ghost use Rattle.tape.specs.Steps.{fresh, ended, answers, refuses, ends, atEnd, keyRefusal, setKey, mapRefusal, mapBlock, mixWord, command, step, returned, over};
-
-// The state of a tape: the working key, whether one was set, and whether the tape has ended. One made by hand is taken too.
-pub struct Tape {
-    pub key: WorkingKey,
-    pub keyed: bool,
-    pub ended: bool,
-}
-
-// What a step returns: document 01's number, the bytes taken of the rest, the bytes written of the answer, and the next state.
-pub struct Stepped {
-    pub number: u8,
-    pub taken: usize,
-    pub written: usize,
-    pub next: Tape,
-}
-
-// The state before the first step.
-pub fn fresh() -> Tape
-    ensures { λ r. ⌜ r ≡ fresh ⌝ }
-{
-    Tape {
-        key: WorkingKey {
-            n: 0,
-            words: [0; 32],
-        },
-        keyed: false,
-        ended: false,
-    }
-}
+ghost use Rattle.tape_rules.specs.Steps.{answers, refuses, atEnd, keyRefusal, setKey, mapRefusal, mapBlock, mixWord, command, returned};
+ghost use Rattle.tape_rules.specs.Steps as spec;
 
 // The same state, ended.
 fn ended(t: Tape) -> Tape
-    ensures { λ r. ⌜ r ≡ ended t ⌝ }
+    ensures { λ r. ⌜ r ≡ spec.ended t ⌝ }
 {
     let k = t.key;
     Tape {
@@ -50,7 +26,7 @@ fn ended(t: Tape) -> Tape
 
 // An end: nothing is written.
 fn ends(t: Tape, taken: usize) -> Stepped
-    ensures { λ r. ⌜ r ≡ returned (ends t taken) ⌝ }
+    ensures { λ r. ⌜ r ≡ returned (spec.ends t taken) ⌝ }
 {
     Stepped {
         number: 0,
@@ -176,20 +152,20 @@ fn map_refusal(t: Tape, block: &[u8]) -> u8
 // Enciphers a block, or deciphers it.
 fn map_used(k: WorkingKey, back: bool, src: &[u8], dst: &mut [u8])
     requires { ⌜ Size (k .n) × (length (now src) ≡ 16 * k .n) × (length (now dst) ≡ 16 * k .n) ⌝ }
-    ensures { λ _. ⌜ now (dst .exit) ≡ way back (k .n) (k .words) (now (src .entry)) ⌝ }
+    ensures { λ _. ⌜ now (dst .exit) ≡ way article back (k .n) (k .words) (now (src .entry)) ⌝ }
 {
     if back {
-        cipher::decipher_by_table(k, src, dst);
+        table_cipher::decipher_by_table(k, src, dst);
     } else {
-        cipher::encipher_by_table(k, src, dst);
+        table_cipher::encipher_by_table(k, src, dst);
     }
 }
 
 // Enciphers the block of a command, or deciphers it.
 fn map_block(t: Tape, back: bool, rest: &[u8], answer: &mut [u8]) -> Stepped
     requires { ⌜ length (now answer) ≡ 65 ⌝ }
-    ensures returned { λ r. ⌜ r ≡ returned (mapBlock (way back) t (now (rest .entry))) ⌝ }
-    ensures bytes { λ _. ⌜ now (answer .exit) ≡ over (mapBlock (way back) t (now (rest .entry)) .written) (now (answer .entry)) ⌝ }
+    ensures returned { λ r. ⌜ r ≡ returned (mapBlock (way article back) t (now (rest .entry))) ⌝ }
+    ensures bytes { λ _. ⌜ now (answer .exit) ≡ over (mapBlock (way article back) t (now (rest .entry)) .written) (now (answer .entry)) ⌝ }
 {
     if rest.len() < 65 {
         return say_number(ended(t), 8, rest.len(), answer);
@@ -201,7 +177,7 @@ fn map_block(t: Tape, back: bool, rest: &[u8], answer: &mut [u8]) -> Stepped
     let k = t.key;
     let used = 16 * k.n;
     let end = 1 + used;
-    let mut block = strings::room();
+    let mut block = strings::zero_block();
     map_used(k, back, &rest[1..end], &mut block[..used]);
     say_bytes(t, 65, &block[..used], answer)
 }
@@ -244,8 +220,8 @@ fn obey(t: Tape, rest: &[u8], answer: &mut [u8]) -> Stepped
 
 // One step of the tape: 5 if the answer buffer isn't 65 bytes, then the end of the tape, then a command.
 pub fn step(t: Tape, rest: &[u8], answer: &mut [u8]) -> Stepped
-    ensures returned { λ r. ⌜ r ≡ returned (step t (now (rest .entry)) (length (now (answer .entry)))) ⌝ }
-    ensures bytes { λ _. ⌜ now (answer .exit) ≡ over (step t (now (rest .entry)) (length (now (answer .entry))) .written) (now (answer .entry)) ⌝ }
+    ensures returned { λ r. ⌜ r ≡ returned (spec.step t (now (rest .entry)) (length (now (answer .entry)))) ⌝ }
+    ensures bytes { λ _. ⌜ now (answer .exit) ≡ over (spec.step t (now (rest .entry)) (length (now (answer .entry))) .written) (now (answer .entry)) ⌝ }
 {
     if answer.len() != 65 {
         return Stepped {

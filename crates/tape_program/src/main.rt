@@ -8,7 +8,7 @@ ghost use Prim.Native.Nat.{_≤_};
 ghost use lib.ListN.{length};
 
 // Room for a tape and one byte more, by which a longer one is noticed; the answers need as much.
-fn room() -> [u8; 65537]
+fn blank() -> [u8; 65537]
     ensures { λ r. ⌜ 65537 ≡ length r ⌝ }
 {
     [0; 65537]
@@ -43,13 +43,13 @@ fn read_tape(tape: &mut [u8]) -> Input
 }
 
 fn main() {
-    let mut tape = room();
+    let mut tape = blank();
     let input = read_tape(&mut tape);
     if input.failed {
         io::write_all(STDERR_FILENO, b"tape_program: the tape cannot be read\n");
         return;
     }
-    let mut answers = room();
+    let mut answers = blank();
     let length = input.length;
     let done = tape_run::run(&tape[..length], &mut answers);
     let written = done.length;

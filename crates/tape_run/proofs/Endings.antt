@@ -10,13 +10,13 @@ use borrow.Author.Tests.{eqb-true, eqb-false}
 use lib.Dec.{eqb}
 use lib.ListN.{length, drop, length-append, length-drop}
 use lib.Seq.{drop-append-le, drop-append-add}
-use Rattle.field.specs.Lists.{when}
-use Rattle.tape.specs.declared.Tape.{Tape}
-use Rattle.tape.specs.Steps.{Answer, ended, refuses, step}
-use Rattle.tape.proofs.Bounds.{step-bounded}
-use Rattle.tape.proofs.Ways.{Known, sets, maps, mixes, Unknown}
-use Rattle.tape.proofs.Accepted.{Short, nothing-left, cut-short, short-step, eight-iff, Closed, Ending, shut, short, ends-iff}
-use Rattle.tape.proofs.Front.{step-front}
+use Rattle.forms.specs.Lists.{when}
+use Rattle.tape_rules.specs.declared.Tape.{Tape}
+use Rattle.tape_rules.specs.Steps.{Answer, ended, refuses, step}
+use Rattle.tape_rules.proofs.Bounds.{step-bounded}
+use Rattle.tape_rules.proofs.Ways.{Known, sets, maps, mixes, Unknown}
+use Rattle.tape_rules.proofs.Accepted.{Short, nothing-left, cut-short, short-step, eight-iff, Closed, Ending, shut, short, ends-iff}
+use Rattle.tape_rules.proofs.Front.{step-front}
 use Rattle.tape_run.specs.Runs.{tapeSteps, joined, tapeAnswers, lastNumber, lastAnswer, lastRest}
 use Rattle.tape_run.proofs.Runs.{Walked, last, more, tape-walked, walked-once, lastRest-more}
 

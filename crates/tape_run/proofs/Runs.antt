@@ -9,13 +9,13 @@ use native.Mathlib.Omega.{arith}
 use borrow.Author.Tests.{eqb-true, eqb-false, eq-eqb, ne-eqb, ltb-true, ltb-false, lt-ltb, le-ltb}
 use lib.Dec.{eqb, ltb}
 use lib.ListN.{length, drop, length-append, length-drop}
-use Rattle.field.specs.Lists.{when}
-use Rattle.tape.specs.declared.Tape.{Tape}
-use Rattle.tape.specs.Steps.{Answer, fresh, step, over}
-use Rattle.tape.proofs.Bounds.{one-if, step-bounded, step-moves}
-use Rattle.tape.proofs.Ways.{when-all}
-use Rattle.tape.proofs.Accepted.{Ending, ends-iff}
-use Rattle.tape.proofs.Used.{Alike, Same, step-used}
+use Rattle.forms.specs.Lists.{over, when}
+use Rattle.forms.proofs.Booleans.{when-all}
+use Rattle.tape_rules.specs.declared.Tape.{Tape}
+use Rattle.tape_rules.specs.Steps.{Answer, fresh, step}
+use Rattle.tape_rules.proofs.Bounds.{one-if, step-bounded, step-moves}
+use Rattle.tape_rules.proofs.Accepted.{Ending, ends-iff}
+use Rattle.tape_rules.proofs.Used.{Alike, Same, step-used}
 use Rattle.tape_run.specs.declared.Answered.{Answered}
 use Rattle.tape_run.specs.Runs.{steps, tapeSteps, joined, tapeAnswers, lastRest, Ran, run, returned}
 

@@ -5,47 +5,31 @@ use mathlib.Core.Bool.{Bool, true, false, not}
 use mathlib.Core.List.{List, [], _++_, append-assoc, append-nil}
 use Prim.Native.Nat.{ℕ, zero, suc, _+_, _-_, _≤_, _<_}
 use native.Mathlib.Omega.{arith}
-use lib.ListN.{length, take, drop, length-append, length-drop, drop-of-length-le}
-use lib.Seq.{take-all, take-at, drop-at, drop-drop}
-use Rattle.field.specs.Lists.{when}
-use Rattle.tape.specs.declared.Tape.{Tape}
-use Rattle.tape.specs.declared.Stepped.{Stepped}
-use Rattle.tape.specs.Steps.{Answer, fresh, step, returned, over}
-use Rattle.tape.proofs.Cases.{from-on}
-use Rattle.tape.proofs.Bounds.{one-if, one-if-top, step-bounded, step-moves}
+use lib.ListN.{length, take, drop, length-append, length-drop}
+use lib.Seq.{take-all, take-at, drop-drop}
+use Rattle.forms.specs.Lists.{over, when}
+use Rattle.forms.proofs.Parts.{part-to-end, over-more, over-length}
+use Rattle.tape_rules.specs.declared.Tape.{Tape}
+use Rattle.tape_rules.specs.declared.Stepped.{Stepped}
+use Rattle.tape_rules.specs.Steps.{Answer, fresh, step, returned}
+use Rattle.tape_rules.proofs.Cases.{from-on}
+use Rattle.tape_rules.proofs.Bounds.{one-if, one-if-top, step-bounded, step-moves}
 use Rattle.tape_run.specs.Runs.{steps, tapeSteps, joined, tapeAnswers}
 
--- a part that goes to the end is lent, and comes back as ys
-pub part-to-end : (d ys : List ℕ) (at : ℕ) → take at d ++ (ys ++ drop (length d - at) (drop at d)) ≡ take at d ++ ys
-part-to-end d ys at =
-    ap (λ (x : List ℕ). take at d ++ (ys ++ x)) (drop-of-length-le (drop at d) {i = length d - at} (omega (arith, length-drop at d)))
-    ∙ ap (λ (x : List ℕ). take at d ++ x) (append-nil ys)
+-- ---- one step into a buffer of 65 bytes
 
--- bytes written over the front, and more behind them
-pub over-more : (done more before : List ℕ) (put : ℕ) → put ≡ length done
-    → take put (over done before) ++ over more (drop put (over done before)) ≡ over (done ++ more) before
-over-more done more before put e =
-    ap₂ (λ (x y : List ℕ). x ++ over more y) (take-at done (drop (length done) before) put (sym e)) (drop-at done (drop (length done) before) put (sym e))
-    ∙ sym (append-assoc done more (drop (length more) (drop (length done) before)))
-    ∙ ap (λ (x : List ℕ). (done ++ more) ++ x) (drop-drop (length more) (length done) before ∙ ap (λ (k : ℕ). drop k before) (sym (length-append done more)))
-
-pub over-length : (written before : List ℕ) → length written ≤ length before → length (over written before) ≡ length before
-over-length written before h = length-append written (drop (length written) before) ∙ omega (arith, length-drop (length written) before)
-
--- ---- one step into a room of 65 bytes
-
--- what it returns, and the bytes that it wrote, at the front of the room
-pub record In-room (a : Answer) (s : Stepped) (room : List ℕ) : Type 0 where
+-- what it returns, and the bytes that it wrote, at the front of the buffer
+pub record Answered-in (a : Answer) (s : Stepped) (buffer : List ℕ) : Type 0 where
   pub returns : s ≡ returned a
-  pub front : take (s .written) room ≡ a .written
-  pub long : length (take (s .written) room) ≡ s .written
+  pub front : take (s .written) buffer ≡ a .written
+  pub long : length (take (s .written) buffer) ≡ s .written
 
-pub in-room : (t : Tape) (rest old : List ℕ) {s : Stepped} {room : List ℕ} → 65 ≡ length old
-    → (s ≡ returned (step t rest (length old))) × (room ≡ over (step t rest (length old) .written) old) → In-room (step t rest 65) s room
-in-room t rest old {s} {room} l h =
+pub answered-in : (t : Tape) (rest old : List ℕ) {s : Stepped} {buffer : List ℕ} → 65 ≡ length old
+    → (s ≡ returned (step t rest (length old))) × (buffer ≡ over (step t rest (length old) .written) old) → Answered-in (step t rest 65) s buffer
+answered-in t rest old {s} {buffer} l h =
     let is : s ≡ returned (step t rest 65) = h .0 ∙ ap (λ (k : ℕ). returned (step t rest k)) (sym l) in
     let w : s .written ≡ length (step t rest 65 .written) = ap (λ (x : Stepped). x .written) is in
-    let f : take (s .written) room ≡ step t rest 65 .written = ap (take (s .written)) (h .1 ∙ ap (λ (k : ℕ). over (step t rest k .written) old) (sym l)) ∙ take-at (step t rest 65 .written) _ (s .written) (sym w) in
+    let f : take (s .written) buffer ≡ step t rest 65 .written = ap (take (s .written)) (h .1 ∙ ap (λ (k : ℕ). over (step t rest k .written) old) (sym l)) ∙ take-at (step t rest 65 .written) _ (s .written) (sym w) in
     record { returns = is; front = f; long = ap length f ∙ sym w }
 
 -- bytes are copied to the front of the answers

@@ -5,9 +5,9 @@ use mathlib.Core.Bool.{not}
 use mathlib.Core.List.{List, [], _∷_, _++_}
 use lib.Dec.{eqb, ltb}
 use lib.ListN.{length, drop}
-use Rattle.field.specs.Lists.{when}
-use Rattle.tape.specs.declared.Tape.{Tape}
-use Rattle.tape.specs.Steps.{Answer, fresh, step}
+use Rattle.forms.specs.Lists.{when}
+use Rattle.tape_rules.specs.declared.Tape.{Tape}
+use Rattle.tape_rules.specs.Steps.{Answer, fresh, step}
 use Rattle.tape_run.specs.declared.Answered.{Answered}
 
 -- ---- the steps

@@ -1,12 +1,13 @@
 // A whole command tape: steps from a fresh state until the tape is ended, their answers one after another.
-use tape::Stepped;
-use tape::Tape;
+use tape_rules::Stepped;
+use tape_rules::Tape;
 ghost use mathlib.Core.Path.{_≡_};
 ghost use Prim.Native.Nat.{_<_};
 ghost use lib.ListN.{length};
-ghost use Rattle.tape.specs.Steps.{over};
-ghost use Rattle.tape.specs.Steps as spec;
-ghost use Rattle.tape_run.specs.Runs.{tapeAnswers, run, returned};
+ghost use Rattle.forms.specs.Lists.{over};
+ghost use Rattle.tape_rules.specs.Steps as spec;
+ghost use Rattle.tape_run.specs.Runs.{tapeAnswers, returned};
+ghost use Rattle.tape_run.specs.Runs.{run as wholeRun};
 
 // What a run returns: a number, and the bytes written of the answers.
 pub struct Answered {
@@ -15,7 +16,7 @@ pub struct Answered {
 }
 
 // Room for an answer.
-fn room() -> [u8; 65]
+fn blank_answer() -> [u8; 65]
     ensures { λ r. ⌜ 65 ≡ length r ⌝ }
 {
     [0; 65]
@@ -27,7 +28,7 @@ fn turn(t: Tape, rest: &[u8], answers: &mut [u8]) -> Stepped
     ensures returned { λ r. ⌜ r ≡ spec.returned (spec.step t (now (rest .entry)) 65) ⌝ }
     ensures bytes { λ _. ⌜ now (answers .exit) ≡ over (spec.step t (now (rest .entry)) 65 .written) (now (answers .entry)) ⌝ }
 {
-    let mut answer = room();
+    let mut answer = blank_answer();
     let s = tape::step(t, rest, &mut answer);
     let written = s.written;
     strings::copy_into(answers, &answer[..written]);
@@ -40,7 +41,7 @@ fn work(tape: &[u8], answers: &mut [u8]) -> usize
     ensures length { λ r. ⌜ r ≡ length (tapeAnswers (now (tape .entry))) ⌝ }
     ensures bytes { λ _. ⌜ now (answers .exit) ≡ over (tapeAnswers (now (tape .entry))) (now (answers .entry)) ⌝ }
 {
-    let mut t = tape::fresh();
+    let mut t = tape_rules::fresh();
     let mut at = 0usize;
     let mut put = 0usize;
     let mut going = true;
@@ -56,8 +57,8 @@ fn work(tape: &[u8], answers: &mut [u8]) -> usize
 
 // Runs a whole tape: 5 if the answers aren't 65,537 bytes, 4 if the tape is longer than 65,536.
 pub fn run(tape: &[u8], answers: &mut [u8]) -> Answered
-    ensures returned { λ r. ⌜ r ≡ returned (run (now (tape .entry)) (length (now (answers .entry)))) ⌝ }
-    ensures bytes { λ _. ⌜ now (answers .exit) ≡ over (run (now (tape .entry)) (length (now (answers .entry))) .written) (now (answers .entry)) ⌝ }
+    ensures returned { λ r. ⌜ r ≡ returned (wholeRun (now (tape .entry)) (length (now (answers .entry)))) ⌝ }
+    ensures bytes { λ _. ⌜ now (answers .exit) ≡ over (wholeRun (now (tape .entry)) (length (now (answers .entry))) .written) (now (answers .entry)) ⌝ }
 {
     if answers.len() != 65537 {
         return Answered {

@@ -7,23 +7,23 @@ ghost use mathlib.Core.Bool.{_&&_};
 ghost use mathlib.Core.List.{[], _++_};
 ghost use Prim.Native.Nat.{_+_, _*_, _≤_, _<_};
 ghost use lib.Dec.{eqb};
-ghost use lib.ListN.{length, getD, take, drop};
-ghost use Rattle.field.specs.Lists.{tabulate, when};
-ghost use Rattle.field.specs.Words.{rotl, eachByte};
+ghost use lib.ListN.{length, take, drop};
+ghost use Rattle.forms.specs.Lists.{tabulate, when, wordsFrom};
+ghost use Rattle.forms.specs.Words.{rotl, eachByte, words, bytes};
 ghost use Rattle.field.specs.Substitution.{sub};
-ghost use Rattle.labyrinth.specs.Blocks.{plus, minus, each, zip, words, bytes, load, store};
+ghost use Rattle.labyrinth.specs.Blocks.{plus, minus, each, zip, load, store};
 ghost use Rattle.labyrinth.specs.Cipher.{IMix, IT, FT};
 ghost use Rattle.labyrinth.specs.Cipher as spec;
 ghost use Rattle.labyrinth.specs.Keys.{half};
 ghost use Rattle.labyrinth.specs.Refusals.{legal};
-ghost use Rattle.labyrinth.specs.Working.{Size, wordsFrom, room, held, blockIn, fits};
+ghost use Rattle.labyrinth.specs.Working.{Size, fourWords, held, blockIn, fits};
 
 // ---- IMix
 
 // Sigma of two halves: the XOR of their words, word 0 of it rotated.
 fn sigma(n: usize, l: [u64; 4], r: [u64; 4]) -> [u64; 4]
     requires { ⌜ Size n ⌝ }
-    ensures { λ d. ⌜ d ≡ room (tabulate n (spec.sigma (take n l, take n r))) ⌝ }
+    ensures { λ d. ⌜ d ≡ fourWords (tabulate n (spec.sigma (take n l, take n r))) ⌝ }
 {
     let mut d = [0u64; 4];
     let mut j = 0usize;
@@ -67,7 +67,7 @@ fn key_in(
     at: usize,
 ) -> [u64; 4]
     requires { ⌜ (n ≤ 4) × (k + n ≤ 80) × (turn < 64) × (at + 8 * n ≤ length (now src)) ⌝ }
-    ensures { λ r. ⌜ r ≡ room (each n (λ w. rotl w turn) (each n (eachByte (sub (now (s .entry)))) (zip n plus (words n (drop at (now (src .entry)))) (wordsFrom n k (now (ks .entry)))))) ⌝ }
+    ensures { λ r. ⌜ r ≡ fourWords (each n (λ w. rotl w turn) (each n (eachByte (sub (now (s .entry)))) (zip n plus (words n (drop at (now (src .entry)))) (wordsFrom n k (now (ks .entry)))))) ⌝ }
 {
     let mut x = [0u64; 4];
     let mut j = 0usize;

@@ -1,9 +1,9 @@
 -- The two shifts meet where the word comes round.
 -- Assumes nothing.
-use Rattle.field.proofs.Forms.{rotl-code}
 use Prim.Native.Nat.{_%_}
 use native.Mathlib.Omega.{arith}
 use borrow.Author.Needs.{needs}
+use Rattle.forms.proofs.Words.{rotl-code}
 use Rattle.arithmetic.proofs.rotate_left.Statement.{statement}
 use Rattle.arithmetic.proofs.rotate_left.Tie as tie
 

@@ -4,13 +4,13 @@ use mathlib.Core.Path.{_≡_, sym, ap, _∙_}
 use Prim.Native.Nat.{_≤_, _<_, _-_, _^_}
 use native.Mathlib.Nat.{mod-eq-of-lt}
 use native.Mathlib.Omega.{arith}
+use borrow.Author.Needs.{needs}
+use Rattle.forms.proofs.Xor.{parity}
 use Rattle.field.specs.Field.{mul, shift, timesX}
-use Rattle.field.proofs.Xor.{parity}
 use Rattle.field.proofs.Field.{digit-lt, timesX-lt}
-use Rattle.field.proofs.Forms.{shift-next}
+use Rattle.field.proofs.TimesX.{shift-next}
 use Rattle.arithmetic.specs.BitLength.{bitLength}
 use Rattle.arithmetic.proofs.Turns.{Turned, turned-none, turned-next, turned-end}
-use borrow.Author.Needs.{needs}
 use Rattle.arithmetic.proofs.times.Statement.{statement}
 use Rattle.arithmetic.proofs.times.Tie as tie
 

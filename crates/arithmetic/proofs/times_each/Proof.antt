@@ -3,15 +3,15 @@
 use mathlib.Core.Path.{_≡_, sym, ap, _∙_}
 use Prim.Native.Nat.{_≤_, _<_, _-_, _^_}
 use native.Mathlib.Omega.{arith}
-use Rattle.field.specs.Words.{eachByte}
+use borrow.Author.Needs.{needs}
+use Rattle.forms.specs.Words.{eachByte}
+use Rattle.forms.proofs.Xor.{parity}
+use Rattle.forms.proofs.Words.{each-lt}
+use Rattle.forms.proofs.Sums.{xorSum-end}
 use Rattle.field.specs.Field.{timesX}
-use Rattle.field.proofs.Xor.{parity}
-use Rattle.field.proofs.Words.{each-lt}
 use Rattle.field.proofs.Field.{digit-lt, timesX-lt}
-use Rattle.field.proofs.Forms.{xorSum-end}
 use Rattle.field.proofs.Scale.{shiftEach, shiftEach-zero, shiftEach-next, scale-bits}
 use Rattle.arithmetic.proofs.Turns.{Turned, turned-none, turned-next}
-use borrow.Author.Needs.{needs}
 use Rattle.arithmetic.proofs.times_each.Statement.{statement}
 use Rattle.arithmetic.proofs.times_each.Tie as tie
 

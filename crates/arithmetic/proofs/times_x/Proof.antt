@@ -1,8 +1,8 @@
 -- By a test at the 256 bytes.
 -- Assumes nothing.
-use Rattle.field.proofs.Forms.{timesX-code}
 use native.Mathlib.Omega.{arith}
 use borrow.Author.Needs.{needs}
+use Rattle.field.proofs.TimesX.{timesX-code}
 use Rattle.arithmetic.proofs.times_x.Statement.{statement}
 use Rattle.arithmetic.proofs.times_x.Tie as tie
 

@@ -1,7 +1,7 @@
 -- By a test at the 64 bits of a word.
 -- Assumes nothing.
-use Rattle.field.proofs.Forms.{timesXEach-code}
 use native.Mathlib.Omega.{arith}
+use Rattle.field.proofs.TimesX.{timesXEach-code}
 use Rattle.arithmetic.proofs.times_x_each.Statement.{statement}
 use Rattle.arithmetic.proofs.times_x_each.Tie as tie
 

@@ -1,9 +1,8 @@
 -- The place stays within the source, and the destination keeps the source's length.
 -- Assumes nothing.
 use mathlib.Core.Path.{_≡_}
-use Prim.Native.Nat.{_≤_, _<_, _-_}
+use Prim.Native.Nat.{_≤_, _-_}
 use lib.ListN.{length}
-use native.Mathlib.Omega.{arith}
 use borrow.Author.Needs.{needs}
 use Rattle.bench_blocks.proofs.each_block.Statement.{statement}
 use Rattle.bench_blocks.proofs.each_block.Tie as tie
@@ -26,26 +25,26 @@ sub-loop c = search needs
 add-end : tie.Need-add-end Inv-loop μ-loop
 add-end c = search needs
 
-sub-apply-tables : tie.Need-sub-apply-tables Inv-loop μ-loop
-sub-apply-tables c = search needs
+sub-map-block : tie.Need-sub-map-block Inv-loop μ-loop
+sub-map-block c = search needs
 
-part-apply-tables-start : tie.Need-part-apply-tables-start Inv-loop μ-loop
-part-apply-tables-start c = search needs
+part-map-block-start : tie.Need-part-map-block-start Inv-loop μ-loop
+part-map-block-start c = search needs
 
-part-apply-tables-end : tie.Need-part-apply-tables-end Inv-loop μ-loop
-part-apply-tables-end c = search needs
+part-map-block-end : tie.Need-part-map-block-end Inv-loop μ-loop
+part-map-block-end c = search needs
 
-sub-apply-tables-2 : tie.Need-sub-apply-tables-2 Inv-loop μ-loop
-sub-apply-tables-2 c = search needs
+sub-map-block-2 : tie.Need-sub-map-block-2 Inv-loop μ-loop
+sub-map-block-2 c = search needs
 
-part-apply-tables-start-2 : tie.Need-part-apply-tables-start-2 Inv-loop μ-loop
-part-apply-tables-start-2 c = search needs
+part-map-block-start-2 : tie.Need-part-map-block-start-2 Inv-loop μ-loop
+part-map-block-start-2 c = search needs
 
-part-apply-tables-end-2 : tie.Need-part-apply-tables-end-2 Inv-loop μ-loop
-part-apply-tables-end-2 c = search needs
+part-map-block-end-2 : tie.Need-part-map-block-end-2 Inv-loop μ-loop
+part-map-block-end-2 c = search needs
 
-apply-tables-requires : tie.Need-apply-tables-requires Inv-loop μ-loop
-apply-tables-requires c κs = search needs
+map-block-requires : tie.Need-map-block-requires Inv-loop μ-loop
+map-block-requires c κs = search needs
 
 loop-less : tie.Need-loop-less Inv-loop μ-loop
 loop-less c = search needs
@@ -69,13 +68,13 @@ each-block-spec =
     loop-holds
     sub-loop
     add-end
-    sub-apply-tables
-    part-apply-tables-start
-    part-apply-tables-end
-    sub-apply-tables-2
-    part-apply-tables-start-2
-    part-apply-tables-end-2
-    apply-tables-requires
+    sub-map-block
+    part-map-block-start
+    part-map-block-end
+    sub-map-block-2
+    part-map-block-start-2
+    part-map-block-end-2
+    map-block-requires
     loop-less
     loop-again
     same-length

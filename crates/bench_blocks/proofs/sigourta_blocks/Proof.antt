@@ -3,8 +3,8 @@
 use mathlib.Core.Path.{sym, _∙_}
 use native.Mathlib.Omega.{arith}
 use borrow.Author.Tests.{not-false}
-use Rattle.labyrinth.proofs.Refusals.{legal-size-of}
 use borrow.Author.Needs.{needs}
+use Rattle.labyrinth.proofs.Refusals.{legal-size-of}
 use Rattle.bench_blocks.proofs.sigourta_blocks.Statement.{statement}
 use Rattle.bench_blocks.proofs.sigourta_blocks.Tie as tie
 
@@ -17,17 +17,17 @@ returns c = search needs
 returns-2 : tie.Need-returns-2
 returns-2 c = search needs
 
-merged-table-requires : tie.Need-merged-table-requires
-merged-table-requires c κs = search needs
+table-requires : tie.Need-table-requires
+table-requires c κs = search needs
 
-spread-table-requires : tie.Need-spread-table-requires
-spread-table-requires c κs = search needs
+eight-tables-requires : tie.Need-eight-tables-requires
+eight-tables-requires c κs = search needs
 
-sbox-requires : tie.Need-sbox-requires
-sbox-requires c κs = search needs
+substitution-requires : tie.Need-substitution-requires
+substitution-requires c κs = search needs
 
-sbox-inverse-requires : tie.Need-sbox-inverse-requires
-sbox-inverse-requires c κs = search needs
+inverse-requires : tie.Need-inverse-requires
+inverse-requires c κs = search needs
 
 schedule-requires : tie.Need-schedule-requires
 schedule-requires c κs = search needs
@@ -54,10 +54,10 @@ sigourta-blocks-spec =
     is-legal-requires
     returns
     returns-2
-    merged-table-requires
-    spread-table-requires
-    sbox-requires
-    sbox-inverse-requires
+    table-requires
+    eight-tables-requires
+    substitution-requires
+    inverse-requires
     schedule-requires
     slice-aggregate-each-block
     each-block-requires

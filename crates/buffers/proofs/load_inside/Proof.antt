@@ -5,8 +5,8 @@ use Prim.Native.Nat.{ℕ, _+_}
 use native.Mathlib.Nat.{add-zero}
 use native.Mathlib.Omega.{arith}
 use lib.ListN.{getD}
-use Rattle.labyrinth.proofs.Buffers.{join-eight}
 use borrow.Author.Needs.{needs}
+use Rattle.forms.proofs.Buffers.{join-eight}
 use Rattle.buffers.proofs.load_inside.Statement.{statement}
 use Rattle.buffers.proofs.load_inside.Tie as tie
 

@@ -1,25 +1,22 @@
 -- The word where it has room, and 0 where it has none.
 -- Assumes nothing.
-use mathlib.Core.Path.{_≡_, sym, ap, _∙_}
-use mathlib.Core.Bool.{Bool}
-use Prim.Native.Nat.{ℕ, _+_, _≤_}
-use lib.ListN.{length}
-use Rattle.buffers.proofs.Words.{room-there, word-at, word-none}
+use mathlib.Core.Path.{sym, _∙_}
 use borrow.Author.Needs.{needs}
+use Rattle.buffers.proofs.Words.{inside-there, word-at, word-none}
 use Rattle.buffers.proofs.load_word.Statement.{statement}
 use Rattle.buffers.proofs.load_word.Tie as tie
 
-has-room-requires : tie.Need-has-room-requires
-has-room-requires c κs = search needs
+is-inside-requires : tie.Need-is-inside-requires
+is-inside-requires c κs = search needs
 
 load-inside-requires : tie.Need-load-inside-requires
-load-inside-requires c κs = room-there _ _ (sym (c .before .has-room .ensures) ∙ c .if1 .taken)
+load-inside-requires c κs = inside-there _ _ (sym (c .before .is-inside .ensures) ∙ c .if1 .taken)
 
 returns : tie.Need-returns
-returns c = let h = c .before in c .load-inside .ensures ∙ sym (word-at _ _ (room-there _ _ (sym (h .before .has-room .ensures) ∙ h .if1 .taken)))
+returns c = let h = c .before in c .load-inside .ensures ∙ sym (word-at _ _ (inside-there _ _ (sym (h .before .is-inside .ensures) ∙ h .if1 .taken)))
 
 returns-2 : tie.Need-returns-2
-returns-2 c = word-none _ _ (sym (c .before .has-room .ensures) ∙ c .if1 .left)
+returns-2 c = word-none _ _ (sym (c .before .is-inside .ensures) ∙ c .if1 .left)
 
 pub load-word-spec : {M : Type 1} → statement M
-load-word-spec = tie.close (tie.spec has-room-requires load-inside-requires returns returns-2)
+load-word-spec = tie.close (tie.spec is-inside-requires load-inside-requires returns returns-2)

@@ -2,8 +2,8 @@
 -- Assumes nothing.
 use native.Mathlib.Omega.{arith}
 use lib.ListN.{length-set}
-use Rattle.labyrinth.proofs.Buffers.{put-word}
 use borrow.Author.Needs.{needs}
+use Rattle.forms.proofs.Buffers.{put-word}
 use Rattle.buffers.proofs.store_inside.Statement.{statement}
 use Rattle.buffers.proofs.store_inside.Tie as tie
 

@@ -2,45 +2,39 @@
 -- Assumes nothing.
 use mathlib.Core.Path.{refl, ap, _∙_}
 use native.Mathlib.Omega.{arith}
-use lib.ListN.{length, replicate}
-use Rattle.labyrinth.specs.Working.{lineBytes, tableParts}
-use Rattle.labyrinth.proofs.Sizes.{size-one}
-use Rattle.modes.proofs.Lent.{block-done}
-use Rattle.strings.proofs.Laying.{xor-whole}
+use lib.ListN.{replicate}
 use borrow.Author.Needs.{needs}
+use Rattle.strings.proofs.Laying.{xor-whole}
+use Rattle.labyrinth.specs.Lent.{lent}
+use Rattle.labyrinth.proofs.Sizes.{size-one}
+use Rattle.labyrinth.proofs.Lent.{lent-block}
 use Rattle.cmac.proofs.chain_block.Statement.{statement}
 use Rattle.cmac.proofs.chain_block.Tie as tie
 
--- src/lib.rt:49:21
 slice-aggregate-xor-to : tie.Need-slice-aggregate-xor-to
 slice-aggregate-xor-to c = search needs
 
--- src/lib.rt:49:5
 xor-to-requires : tie.Need-xor-to-requires
 xor-to-requires c κs = search needs
 
--- src/lib.rt:50:42
-slice-aggregate-apply-tables : tie.Need-slice-aggregate-apply-tables
-slice-aggregate-apply-tables c = search needs
+slice-aggregate-map-block : tie.Need-slice-aggregate-map-block
+slice-aggregate-map-block c = search needs
 
--- src/lib.rt:50:5
-apply-tables-requires : tie.Need-apply-tables-requires
-apply-tables-requires c κs = search needs
+map-block-requires : tie.Need-map-block-requires
+map-block-requires c κs = search needs
 
--- src/lib.rt:44:1
 same-length : tie.Need-same-length
 same-length c = search needs
 
--- src/lib.rt:44:1
 returns : tie.Need-returns
 returns c =
     let mixed = c .before .before .before .before .before .before .xor-to in
-    let mapped = c .before .before .apply-tables in
+    let mapped = c .before .before .map-block in
     let s = c .before .before .before .before .before .before .before .before .before .before .before .before in
     let a = s .args in
-    let e = lineBytes (tableParts (a .s .now) (a .u .now) (a .t .now)) 1 (a .ks .now) in
-    block-done 1 (length (mixed .last .0)) (length (a .c .now)) (length (a .t .now)) (e (mixed .last .0)) (a .c .now) size-one (mixed .kept .0) (s .pre .0) (s .pre .2) (mapped .ensures .0) (mapped .ensures .1)
-    ∙ ap e (xor-whole (a .c .now) (a .block .now) (replicate 16 0) (omega arith) (omega arith) (mixed .ensures) refl)
+    let m = lent 1 (a .t .now) (a .s .now) (a .u .now) (a .ks .now) in
+    lent-block 1 (m (mixed .last .0)) (a .c .now) size-one (s .pre .2) (mixed .kept .0) (s .pre .0) (mapped .ensures .0) (mapped .ensures .1)
+    ∙ ap m (xor-whole (a .c .now) (a .block .now) (replicate 16 0) (omega arith) (omega arith) (mixed .ensures) refl)
 
 pub chain-block-spec : {M : Type 1} → statement M
 chain-block-spec =
@@ -48,7 +42,7 @@ chain-block-spec =
     (tie.spec
     slice-aggregate-xor-to
     xor-to-requires
-    slice-aggregate-apply-tables
-    apply-tables-requires
+    slice-aggregate-map-block
+    map-block-requires
     same-length
     returns)

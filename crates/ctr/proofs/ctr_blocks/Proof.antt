@@ -5,20 +5,20 @@ use mathlib.Core.List.{_++_}
 use Prim.Native.Nat.{ℕ, _+_, _-_, _*_, _≤_, _<_, min}
 use native.Mathlib.Omega.{arith}
 use lib.ListN.{length, take, drop}
-use Rattle.labyrinth.specs.Working.{tableParts, lineBytes}
-use Rattle.labyrinth.proofs.Blocks.{Bytes}
-use Rattle.modes.specs.Ctr.{ctr}
-use Rattle.modes.proofs.Parts.{part-length}
-use Rattle.modes.proofs.Lent.{keeps-line}
-use Rattle.ctr.proofs.Turns.{turn, turn-kept, ended}
 use borrow.Author.Needs.{needs}
+use Rattle.forms.proofs.Bytes.{Bytes}
+use Rattle.forms.proofs.Parts.{part-length}
+use Rattle.labyrinth.specs.Lent.{lent}
+use Rattle.modes.specs.Ctr.{ctr}
+use Rattle.modes.proofs.Maps.{keeps-lent}
+use Rattle.ctr.proofs.Turns.{turn, turn-kept, ended}
 use Rattle.ctr.proofs.ctr_blocks.Statement.{statement}
 use Rattle.ctr.proofs.ctr_blocks.Tie as tie
 
 abbrev Inv-loop : tie.InvT-loop
 Inv-loop t s u n ks counter₀ src dst₀ size at₀ counter dst at =
     (length counter ≡ 16 * n) × Bytes counter × (length dst ≡ length src) × (at ≤ length src)
-    × (take at dst ++ ctr (lineBytes (tableParts s u t) n ks) (16 * n) counter 0 (drop at src) ≡ ctr (lineBytes (tableParts s u t) n ks) (16 * n) counter₀ 0 src)
+    × (take at dst ++ ctr (lent n t s u ks) (16 * n) counter 0 (drop at src) ≡ ctr (lent n t s u ks) (16 * n) counter₀ 0 src)
 
 abbrev μ-loop : tie.MeasureT-loop
 μ-loop t s u n ks counter₀ src dst₀ size at₀ counter dst at = length src - at
@@ -71,9 +71,9 @@ loop-again c =
     let call = c .before .before .before .before .before .before .ctr-block in
     let end = c .before .before .before .before .before .before .before .before .before .before .block-end in
     let add = c .before .before .add-into in
-    let e = lineBytes (tableParts (s .args .s .now) (s .args .u .now) (s .args .t .now)) (s .args .n) (s .args .ks .now) in
+    let e = lent (s .args .n) (s .args .t .now) (s .args .s .now) (s .args .u .now) (s .args .ks .now) in
     let z = 16 * s .args .n in
-    let keeps = keeps-line (tableParts (s .args .s .now) (s .args .u .now) (s .args .t .now)) (s .args .n) (s .args .ks .now) in
+    let keeps = keeps-lent (s .args .n) (s .args .t .now) (s .args .s .now) (s .args .u .now) (s .args .ks .now) in
     let pos : 0 < z = omega (arith, s .pre .0 .pos) in
     let ends : end .result ≡ min (p .loop .at + z) (length (s .args .src .now)) = end .ensures ∙ ap (λ (k : ℕ). min (p .loop .at + k) (length (s .args .src .now))) (s .pre .1) in
     let ys = call .last .1 .1 .1 .1 .1 .1 .1 .0 in (

@@ -1,16 +1,16 @@
 -- j half-blocks stand, and what is left to do gives the whole.
 -- Assumes nothing.
-use mathlib.Core.Path.{_≡_, refl, sym, ap, _∙_}
+use mathlib.Core.Path.{_≡_}
 use mathlib.Core.List.{List}
-use Prim.Native.Nat.{ℕ, _≤_, _<_, _-_, _*_}
+use Prim.Native.Nat.{ℕ, _≤_, _-_, _*_}
 use native.Mathlib.Omega.{arith}
 use lib.ListN.{take}
+use borrow.Author.Needs.{needs}
+use Rattle.forms.specs.Words.{words}
 use Rattle.field.specs.Merged.{lookup}
-use Rattle.labyrinth.specs.Blocks.{words}
 use Rattle.labyrinth.specs.Keys.{expandedWords}
 use Rattle.labyrinth.specs.Refusals.{padded}
 use Rattle.labyrinth.proofs.Expansion.{Grown, grown-start, grown-step, grown-end, register-taken}
-use borrow.Author.Needs.{needs}
 use Rattle.expansion.proofs.grow.Statement.{statement}
 use Rattle.expansion.proofs.grow.Tie as tie
 

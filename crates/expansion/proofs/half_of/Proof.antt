@@ -1,26 +1,26 @@
 -- After i turns the first i words stand.
 -- Assumes nothing.
-use mathlib.Core.Path.{_≡_, refl, sym, ap, _∙_}
+use mathlib.Core.Path.{_≡_, ap}
 use mathlib.Core.List.{List}
-use Prim.Native.Nat.{ℕ, _≤_, _<_, _-_, _+_, _*_}
+use Prim.Native.Nat.{ℕ, _≤_, _-_, _+_, _*_}
 use native.Mathlib.Omega.{arith}
-use lib.ListN.{getD, length}
-use Rattle.field.specs.Lists.{tabulate}
-use Rattle.labyrinth.specs.Keys.{half}
-use Rattle.labyrinth.specs.Working.{room}
-use Rattle.labyrinth.proofs.Room.{room-none, room-more, room-end}
+use lib.ListN.{getD}
 use borrow.Author.Needs.{needs}
+use Rattle.forms.specs.Lists.{tabulate}
+use Rattle.labyrinth.specs.Keys.{half}
+use Rattle.labyrinth.specs.Working.{fourWords}
+use Rattle.labyrinth.proofs.FourWords.{four-none, four-more, four-end}
 use Rattle.expansion.proofs.half_of.Statement.{statement}
 use Rattle.expansion.proofs.half_of.Tie as tie
 
 abbrev Inv-loop : tie.InvT-loop
-Inv-loop n w j r₀ i₀ r i = (i ≤ n) × (r ≡ room (tabulate i (λ k. getD w (j * n + k) 0)))
+Inv-loop n w j r₀ i₀ r i = (i ≤ n) × (r ≡ fourWords (tabulate i (λ k. getD w (j * n + k) 0)))
 
 abbrev μ-loop : tie.MeasureT-loop
 μ-loop n w j r₀ i₀ r i = n - i
 
 loop-holds : tie.Need-loop-holds Inv-loop μ-loop
-loop-holds c = (omega arith, room-none _)
+loop-holds c = (omega arith, four-none _)
 
 place-requires : tie.Need-place-requires Inv-loop μ-loop
 place-requires c κs = let p = c .before .before .pre in (p .0, p .1, omega arith)
@@ -47,11 +47,11 @@ loop-again : tie.Need-loop-again Inv-loop μ-loop
 loop-again c =
     let s = c .before .before .before .loop in
     let w : List ℕ = c .before .before .before .before .args .w .now in
-    (omega arith, room-more _ (s .i) (omega (arith, c .before .before .before .before .pre .0 .top)) (s .inv .1) (ap (λ (k : ℕ). getD w k 0) (c .before .place .ensures .0)))
+    (omega arith, four-more _ (s .i) (omega (arith, c .before .before .before .before .pre .0 .top)) (s .inv .1) (ap (λ (k : ℕ). getD w k 0) (c .before .place .ensures .0)))
 
 returns : tie.Need-returns Inv-loop μ-loop
 unfolding half
-returns c = let s = c .before .loop in let e : s .i ≡ c .before .before .args .n = omega arith in room-end _ e (s .inv .1)
+returns c = let s = c .before .loop in let e : s .i ≡ c .before .before .args .n = omega arith in four-end _ e (s .inv .1)
 
 pub half-of-spec : {M : Type 1} → statement M
 half-of-spec =

@@ -1,14 +1,14 @@
 -- After i turns the first i words stand, and zeros behind them.
 -- Assumes nothing.
-use mathlib.Core.Path.{_≡_, refl, sym, ap, _∙_}
-use Prim.Native.Nat.{ℕ, _≤_, _<_, _-_, _*_}
+use mathlib.Core.Path.{_≡_, refl, ap, _∙_}
+use Prim.Native.Nat.{ℕ, _≤_, _-_, _*_}
 use native.Mathlib.Omega.{arith}
-use Rattle.field.specs.Lists.{tabulate}
-use Rattle.labyrinth.specs.Blocks.{words}
+use borrow.Author.Needs.{needs}
+use Rattle.forms.specs.Lists.{tabulate}
+use Rattle.forms.specs.Words.{words}
+use Rattle.buffers.proofs.Words.{word-at}
 use Rattle.labyrinth.specs.Refusals.{padded}
 use Rattle.labyrinth.proofs.Expansion.{load-more}
-use Rattle.buffers.proofs.Words.{word-at}
-use borrow.Author.Needs.{needs}
 use Rattle.expansion.proofs.load_key.Statement.{statement}
 use Rattle.expansion.proofs.load_key.Tie as tie
 

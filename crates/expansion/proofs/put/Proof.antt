@@ -1,14 +1,14 @@
 -- After i turns the first i words stand behind the half-blocks before.
 -- Assumes nothing.
-use mathlib.Core.Path.{_≡_, refl, sym, ap, _∙_}
+use mathlib.Core.Path.{_≡_, refl, ap, _∙_}
 use mathlib.Core.List.{List, _++_}
-use Prim.Native.Nat.{ℕ, _≤_, _<_, _-_, _+_, _*_}
+use Prim.Native.Nat.{ℕ, _≤_, _-_, _+_, _*_}
 use native.Mathlib.Omega.{arith}
-use lib.ListN.{getD, length, set}
-use Rattle.field.specs.Lists.{tabulate}
+use lib.ListN.{getD, length}
+use borrow.Author.Needs.{needs}
+use Rattle.forms.specs.Lists.{tabulate}
 use Rattle.labyrinth.specs.Refusals.{padded}
 use Rattle.labyrinth.proofs.Expansion.{put-none, put-more}
-use borrow.Author.Needs.{needs}
 use Rattle.expansion.proofs.put.Statement.{statement}
 use Rattle.expansion.proofs.put.Tie as tie
 

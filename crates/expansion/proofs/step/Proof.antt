@@ -1,30 +1,29 @@
 -- After i turns the first i words are stepped.
 -- Assumes nothing.
-use mathlib.Core.Path.{_≡_, refl, sym, ap, _∙_}
-use mathlib.Core.List.{List}
-use Prim.Native.Nat.{ℕ, _≤_, _<_, _-_}
+use mathlib.Core.Path.{_≡_, sym, ap, _∙_}
+use Prim.Native.Nat.{ℕ, _≤_, _-_}
 use native.Mathlib.Omega.{arith}
 use lib.Bits.{bitXor}
 use lib.ListN.{getD, take}
 use lib.Seq.{getD-take}
-use Rattle.field.specs.Lists.{tabulate}
+use borrow.Author.Needs.{needs}
+use Rattle.forms.specs.Lists.{tabulate}
 use Rattle.labyrinth.specs.Blocks.{plus, each}
 use Rattle.labyrinth.specs.Keys.{delta}
-use Rattle.labyrinth.specs.Working.{room}
-use Rattle.labyrinth.proofs.Room.{room-none, room-more, room-end}
-use borrow.Author.Needs.{needs}
+use Rattle.labyrinth.specs.Working.{fourWords}
+use Rattle.labyrinth.proofs.FourWords.{four-none, four-more, four-end}
 use Rattle.expansion.proofs.step.Statement.{statement}
 use Rattle.expansion.proofs.step.Tie as tie
 use Rattle.std.proofs.num.wrapping_add_u64.Reads as wrapping-add-u64-reads
 
 abbrev Inv-loop : tie.InvT-loop
-Inv-loop n g r₀ i₀ r i = (i ≤ n) × (r ≡ room (tabulate i (λ j. bitXor (plus (getD (take n g) j 0) 0x1084210842108421) 0x4444444444444444)))
+Inv-loop n g r₀ i₀ r i = (i ≤ n) × (r ≡ fourWords (tabulate i (λ j. bitXor (plus (getD (take n g) j 0) 0x1084210842108421) 0x4444444444444444)))
 
 abbrev μ-loop : tie.MeasureT-loop
 μ-loop n g r₀ i₀ r i = n - i
 
 loop-holds : tie.Need-loop-holds Inv-loop μ-loop
-loop-holds c = (omega arith, room-none _)
+loop-holds c = (omega arith, four-none _)
 
 mul-wrapping-add-u64 : tie.Need-mul-wrapping-add-u64 Inv-loop μ-loop
 mul-wrapping-add-u64 c = search needs
@@ -51,13 +50,13 @@ loop-again : tie.Need-loop-again Inv-loop μ-loop
 loop-again c =
     let s = c .before .before .loop in (
       omega arith,
-      room-more _ (s .i) (omega arith) (s .inv .1)
+      four-more _ (s .i) (omega arith) (s .inv .1)
           (ap (λ (x : ℕ). bitXor x 0x4444444444444444) (c .wrapping-add-u64 .ensures ∙ ap (λ (x : ℕ). plus x 0x1084210842108421) (sym (getD-take (c .before .before .before .args .n) _ (s .i) 0 (omega arith))))),
     )
 
 returns : tie.Need-returns Inv-loop μ-loop
 unfolding delta each
-returns c = let s = c .before .loop in let e : s .i ≡ c .before .before .args .n = omega arith in room-end _ e (s .inv .1)
+returns c = let s = c .before .loop in let e : s .i ≡ c .before .before .args .n = omega arith in four-end _ e (s .inv .1)
 
 pub step-spec : {M : Type 1} → statement M
 step-spec =

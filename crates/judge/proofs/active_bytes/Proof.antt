@@ -4,10 +4,10 @@ use mathlib.Core.Path.{_≡_, ap, _∙_}
 use mathlib.Core.Logic.{⊎-elim}
 use Prim.Native.Nat.{ℕ, _≤_, _-_}
 use native.Mathlib.Omega.{arith}
-use Rattle.field.specs.Words.{byte}
+use borrow.Author.Needs.{needs}
+use Rattle.forms.specs.Words.{byte}
 use Rattle.judge.specs.Judge.{nonzero, activeBytes}
 use Rattle.judge.proofs.Counts.{nonzero-most, count-skip, count-take}
-use borrow.Author.Needs.{needs}
 use Rattle.judge.proofs.active_bytes.Statement.{statement}
 use Rattle.judge.proofs.active_bytes.Tie as tie
 

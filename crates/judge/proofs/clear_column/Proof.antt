@@ -6,9 +6,9 @@ use Prim.Native.Nat.{ℕ, _≤_, _<_, _-_}
 use native.Mathlib.Nat.{not-suc-le-zero}
 use native.Mathlib.Omega.{arith}
 use lib.ListN.{getD, length, length-set}
-use Rattle.field.proofs.Lists.{fill, tabulated}
-use Rattle.judge.specs.Elimination.{combined, cleared}
 use borrow.Author.Needs.{needs}
+use Rattle.forms.proofs.Lists.{getD-filled, tabulated}
+use Rattle.judge.specs.Elimination.{combined, cleared}
 use Rattle.judge.proofs.clear_column.Statement.{statement}
 use Rattle.judge.proofs.clear_column.Tie as tie
 
@@ -48,7 +48,7 @@ loop-less c = search needs
 loop-again : tie.Need-loop-again Inv-loop μ-loop
 loop-again c =
     let l = c .before .before .before .loop in
-    (omega arith, simp length-set (l .inv .1), fill _ [] (l .m) (l .i) _ (omega arith) (c .add-times .ensures) (l .inv .2))
+    (omega arith, simp length-set (l .inv .1), getD-filled _ [] (l .m) (l .i) _ (omega arith) (c .add-times .ensures) (l .inv .2))
 
 returns : tie.Need-returns Inv-loop μ-loop
 unfolding cleared

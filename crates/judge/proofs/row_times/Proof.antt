@@ -5,13 +5,12 @@ use mathlib.Core.List.{List, []}
 use Prim.Native.Nat.{ℕ, _≤_, _-_}
 use native.Mathlib.Omega.{arith}
 use lib.ListN.{getD}
-use Rattle.field.specs.Lists.{xorSum}
+use borrow.Author.Needs.{needs}
+use Rattle.forms.specs.Lists.{xorSum}
+use Rattle.forms.proofs.Sums.{xorSum-next, xorSum-end}
 use Rattle.field.specs.Field.{mul}
 use Rattle.field.specs.Mixing.{dot}
-use Rattle.field.proofs.Sums.{xorSum-next}
-use Rattle.field.proofs.Forms.{xorSum-end}
 use Rattle.judge.proofs.Elimination.{dot-combined, dot-zero-row, times-matrix}
-use borrow.Author.Needs.{needs}
 use Rattle.judge.proofs.row_times.Statement.{statement}
 use Rattle.judge.proofs.row_times.Tie as tie
 

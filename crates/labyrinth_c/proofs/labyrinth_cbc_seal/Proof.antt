@@ -3,12 +3,12 @@
 use mathlib.Core.List.{List}
 use Prim.Native.Nat.{ℕ, _*_}
 use lib.ListN.{length}
+use borrow.Author.Needs.{needs}
 use Rattle.labyrinth.specs.Cipher.{article}
 use Rattle.labyrinth.specs.Keys.{E}
 use Rattle.modes.specs.Cbc.{cbcSeal}
 use Rattle.modes.specs.Refusals.{cbcRefusal}
-use Rattle.labyrinth_c.proofs.OneShot.{key-refused, key-passed}
-use borrow.Author.Needs.{needs}
+use Rattle.one_shot.proofs.OneShot.{key-refused, key-passed}
 use Rattle.labyrinth_c.proofs.labyrinth_cbc_seal.Statement.{statement}
 use Rattle.labyrinth_c.proofs.labyrinth_cbc_seal.Tie as tie
 

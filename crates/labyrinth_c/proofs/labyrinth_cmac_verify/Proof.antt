@@ -1,7 +1,7 @@
 -- Expansion's number and a no, or the answer under the key that it gave.
 -- Assumes nothing.
-use Rattle.labyrinth_c.proofs.OneShot.{verify-refused, verify-passed}
 use borrow.Author.Needs.{needs}
+use Rattle.one_shot.proofs.OneShot.{verify-refused, verify-passed}
 use Rattle.labyrinth_c.proofs.labyrinth_cmac_verify.Statement.{statement}
 use Rattle.labyrinth_c.proofs.labyrinth_cmac_verify.Tie as tie
 

@@ -3,11 +3,11 @@
 use mathlib.Core.List.{List}
 use Prim.Native.Nat.{ℕ}
 use lib.ListN.{length}
+use borrow.Author.Needs.{needs}
 use Rattle.labyrinth.specs.Cipher.{article}
 use Rattle.labyrinth.specs.Keys.{E}
 use Rattle.labyrinth.specs.Refusals.{blockRefusal}
-use Rattle.labyrinth_c.proofs.OneShot.{key-refused, key-passed}
-use borrow.Author.Needs.{needs}
+use Rattle.one_shot.proofs.OneShot.{key-refused, key-passed}
 use Rattle.labyrinth_c.proofs.labyrinth_encipher.Statement.{statement}
 use Rattle.labyrinth_c.proofs.labyrinth_encipher.Tie as tie
 

@@ -5,59 +5,47 @@ use mathlib.Core.List.{List, _++_}
 use Prim.Native.Nat.{ℕ}
 use native.Mathlib.Omega.{arith}
 use lib.ListN.{length, take, drop, replicate}
-use Rattle.modes.specs.Strings.{xorBytes}
+use borrow.Author.Needs.{needs}
+use Rattle.forms.specs.Strings.{xorBytes}
+use Rattle.strings.proofs.Laying.{xor-whole}
 use Rattle.modes.specs.Cmac.{doubled, pad}
 use Rattle.modes.proofs.Cmac.{length-doubled, length-padded, last-whole, last-short}
-use Rattle.strings.proofs.Laying.{xor-whole}
-use borrow.Author.Needs.{needs}
 use Rattle.masks.proofs.last_block.Statement.{statement}
 use Rattle.masks.proofs.last_block.Tie as tie
 
--- src/lib.rt:35:14
 next-mask-requires : tie.Need-next-mask-requires
 next-mask-requires c κs = search needs
 
--- src/lib.rt:36:14
 next-mask-requires-2 : tie.Need-next-mask-requires-2
 next-mask-requires-2 c κs = search needs
 
--- src/lib.rt:37:17
 padded-requires : tie.Need-padded-requires
 padded-requires c κs = search needs
 
--- src/lib.rt:40:25
 slice-aggregate-xor-to : tie.Need-slice-aggregate-xor-to
 slice-aggregate-xor-to c = search needs
 
--- src/lib.rt:40:33
 slice-aggregate-xor-to-2 : tie.Need-slice-aggregate-xor-to-2
 slice-aggregate-xor-to-2 c = search needs
 
--- src/lib.rt:40:38
 slice-aggregate-xor-to-3 : tie.Need-slice-aggregate-xor-to-3
 slice-aggregate-xor-to-3 c = search needs
 
--- src/lib.rt:40:9
 xor-to-requires : tie.Need-xor-to-requires
 xor-to-requires c κs = search needs
 
--- src/lib.rt:42:25
 slice-aggregate-xor-to-4 : tie.Need-slice-aggregate-xor-to-4
 slice-aggregate-xor-to-4 c = search needs
 
--- src/lib.rt:42:33
 slice-aggregate-xor-to-5 : tie.Need-slice-aggregate-xor-to-5
 slice-aggregate-xor-to-5 c = search needs
 
--- src/lib.rt:42:38
 slice-aggregate-xor-to-6 : tie.Need-slice-aggregate-xor-to-6
 slice-aggregate-xor-to-6 c = search needs
 
--- src/lib.rt:42:9
 xor-to-requires-2 : tie.Need-xor-to-requires-2
 xor-to-requires-2 c κs = search needs
 
--- src/lib.rt:32:1
 -- a mask that was made, laid over the block that was
 under : (mask last : List ℕ) {k b r : List ℕ} → length mask ≡ 16 → k ≡ mask → b ≡ take 16 (pad last) → r ≡ take 16 (xorBytes k b) ++ drop (length (xorBytes k b)) (replicate 16 0)
     → r ≡ xorBytes mask (take 16 (pad last))

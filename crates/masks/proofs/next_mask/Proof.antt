@@ -6,11 +6,11 @@ use Prim.Native.Nat.{ℕ, _*_}
 use lib.ListN.{length}
 use borrow.Kind.Array.{good-length, eInt}
 use mir.Syntax.{w8}
-use Rattle.labyrinth.proofs.Blocks.{Bytes}
-use Rattle.modes.specs.Strings.{xorBytes, number, string}
-use Rattle.modes.proofs.Strings.{length-string, xor-last}
-use Rattle.modes.proofs.Doubling.{doubled-low, doubled-high}
 use borrow.Author.Needs.{needs, elem-fits}
+use Rattle.forms.specs.Strings.{xorBytes, number, string}
+use Rattle.forms.proofs.Bytes.{Bytes}
+use Rattle.forms.proofs.Strings.{length-string, xor-last}
+use Rattle.modes.proofs.Doubling.{doubled-low, doubled-high}
 use Rattle.masks.proofs.next_mask.Statement.{statement}
 use Rattle.masks.proofs.next_mask.Tie as tie
 

@@ -1,10 +1,11 @@
 -- A refusal leaves the destination; else the three phases are the line.
 -- Assumes nothing.
-use mathlib.Core.Path.{_≡_, sym, _∙_}
+use mathlib.Core.Path.{sym, _∙_}
+use borrow.Author.Needs.{needs}
+use Rattle.forms.proofs.Refusals.{refused-keeps}
 use Rattle.labyrinth.specs.Working.{matrixParts}
 use Rattle.labyrinth.proofs.Sizes.{legal-size}
-use Rattle.labyrinth.proofs.Operations.{block-taken, refused-keeps, phases}
-use borrow.Author.Needs.{needs}
+use Rattle.labyrinth.proofs.Operations.{block-taken, phases}
 use Rattle.matrix_cipher.proofs.apply_matrix.Statement.{statement}
 use Rattle.matrix_cipher.proofs.apply_matrix.Tie as tie
 

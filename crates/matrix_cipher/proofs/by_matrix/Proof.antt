@@ -1,9 +1,10 @@
 -- The substitution and the matrix are the published ones, so the line is E or U.
 -- Assumes nothing.
 use mathlib.Core.Path.{ap, _∙_}
-use Rattle.field.specs.Mixing.{matrix}
-use Rattle.labyrinth.proofs.Operations.{matrix-way}
 use borrow.Author.Needs.{needs}
+use Rattle.field.specs.Mixing.{matrix}
+use Rattle.labyrinth.proofs.Agree.{published-matrix-agrees}
+use Rattle.labyrinth.proofs.Operations.{block-way}
 use Rattle.matrix_cipher.proofs.by_matrix.Statement.{statement}
 use Rattle.matrix_cipher.proofs.by_matrix.Tie as tie
 
@@ -33,10 +34,10 @@ returns c =
     let a = c .before .before .before .before .before .before .before .before .before .before .before .before .before .before .args in
     let applied = c .before .before .apply-matrix .ensures in (
       applied .0,
-      matrix-way (a .back) (a .k .n) (a .k .words) (a .src .now) (a .dst .now)
-          (c .before .before .before .before .before .before .before .before .before .sbox .ensures) (c .before .before .before .before .before .before .before .before .sbox-inverse .ensures)
-          (c .before .before .before .before .before .before .before .before .before .before .matrix .ensures ∙ ap matrix (c .before .before .before .before .before .before .before .before .before .before .before .row .ensures))
-          (c .before .before .before .before .before .before .before .schedule .ensures) (applied .0) (applied .1),
+      block-way
+          (published-matrix-agrees (c .before .before .before .before .before .before .before .before .before .sbox .ensures) (c .before .before .before .before .before .before .before .before .sbox-inverse .ensures)
+          (c .before .before .before .before .before .before .before .before .before .before .matrix .ensures ∙ ap matrix (c .before .before .before .before .before .before .before .before .before .before .before .row .ensures)))
+          (a .back) (a .k .n) (a .k .words) (c .before .before .before .before .before .before .before .schedule .ensures) (a .src .now) (a .dst .now) (applied .0) (applied .1),
     )
 
 pub by-matrix-spec : {M : Type 1} → statement M

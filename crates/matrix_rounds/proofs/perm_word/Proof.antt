@@ -5,14 +5,13 @@ use Prim.Native.Nat.{ℕ, _+_, _-_, _%_, _≤_, _<_}
 use native.Mathlib.Nat.{mod-lt}
 use native.Mathlib.Omega.{arith}
 use lib.ListN.{getD, take}
-use Rattle.field.specs.Words.{byte}
-use Rattle.field.proofs.Words.{byte-is-lt}
-use Rattle.field.proofs.Forms.{Joined, joined-none, joined-more, joined-end}
+use borrow.Author.Needs.{needs}
+use Rattle.forms.specs.Words.{byte}
+use Rattle.forms.specs.Lists.{wordsFrom}
+use Rattle.forms.proofs.Words.{byte-is-lt, Joined, joined-none, joined-more, joined-end}
 use Rattle.labyrinth.specs.Blocks.{plus, zip}
-use Rattle.labyrinth.specs.Working.{wordsFrom}
 use Rattle.labyrinth.proofs.Permutation.{getD-P}
 use Rattle.labyrinth.proofs.Rounds.{summed}
-use borrow.Author.Needs.{needs}
 use Rattle.matrix_rounds.proofs.perm_word.Statement.{statement}
 use Rattle.matrix_rounds.proofs.perm_word.Tie as tie
 

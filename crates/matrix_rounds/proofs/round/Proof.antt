@@ -6,14 +6,14 @@ use native.Mathlib.Nat.{le-of-eq}
 use native.Mathlib.Omega.{arith}
 use lib.ListN.{take}
 use lib.Seq.{take-all}
-use Rattle.field.specs.Words.{eachByte}
+use borrow.Author.Needs.{needs}
+use Rattle.forms.specs.Words.{eachByte}
+use Rattle.forms.specs.Lists.{wordsFrom}
 use Rattle.field.specs.Substitution.{sub}
 use Rattle.field.specs.Mixing.{mixBy}
 use Rattle.labyrinth.specs.Blocks.{plus, zip}
-use Rattle.labyrinth.specs.Working.{wordsFrom}
 use Rattle.labyrinth.proofs.Blocks.{length-zip}
 use Rattle.labyrinth.proofs.Rounds.{Turned, turned-none, turned-more, turned-all}
-use borrow.Author.Needs.{needs}
 use Rattle.matrix_rounds.proofs.round.Statement.{statement}
 use Rattle.matrix_rounds.proofs.round.Tie as tie
 

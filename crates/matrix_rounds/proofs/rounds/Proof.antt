@@ -6,14 +6,13 @@ use native.Mathlib.Omega.{arith}
 use mathlib.Core.Logic.{⊎-elim}
 use borrow.Author.Tests.{eqb-true, eqb-false}
 use lib.ListN.{length}
-use Rattle.field.specs.Words.{eachByte}
+use borrow.Author.Needs.{needs}
+use Rattle.forms.specs.Words.{eachByte}
 use Rattle.field.specs.Substitution.{sub}
 use Rattle.field.specs.Mixing.{mixBy}
-use Rattle.labyrinth.specs.Working.{Size}
+use Rattle.labyrinth.specs.Working.{Size, both}
 use Rattle.labyrinth.proofs.Sizes.{size-one, size-two, size-four}
-use Rattle.labyrinth.specs.Working.{both}
-use Rattle.labyrinth.proofs.Rounds.{Ran, ran-none, ran-room, ran-more, ran-all, ran-legal, when-illegal}
-use borrow.Author.Needs.{needs}
+use Rattle.labyrinth.proofs.Rounds.{Ran, ran-none, ran-inside, ran-more, ran-all, ran-legal, when-illegal}
 use Rattle.matrix_rounds.proofs.rounds.Statement.{statement}
 use Rattle.matrix_rounds.proofs.rounds.Tie as tie
 
@@ -50,13 +49,13 @@ round-requires : tie.Need-round-requires Inv-loop μ-loop
 round-requires c κs =
     let j = c .before .before .before .before in
     let p = c .before .before .before .loop .inv in
-    (size j, ran-room _ _ (size j) _ _ (high j) (low j) (omega arith) p, p .high, p .low)
+    (size j, ran-inside _ _ (size j) _ _ (high j) (low j) (omega arith) p, p .high, p .low)
 
 add-at : tie.Need-add-at Inv-loop μ-loop
 add-at c =
     let j = c .before .before .before .before .before in
     let h : c .before .before .before .before .loop .at + j .before .before .before .args .n ≤ 80 =
-    ran-room _ _ (size j) _ _ (high j) (low j) (omega arith) (c .before .before .before .before .loop .inv) in
+    ran-inside _ _ (size j) _ _ (high j) (low j) (omega arith) (c .before .before .before .before .loop .inv) in
     omega arith
 
 loop-less : tie.Need-loop-less Inv-loop μ-loop

@@ -5,12 +5,11 @@ use Prim.Native.Nat.{_≤_, _-_, _*_, _/_, _%_, _^_}
 use native.Mathlib.Omega.{arith}
 use mir.Syntax.{w64}
 use lib.ListN.{getD}
-use Rattle.field.specs.Lists.{xorSum}
-use Rattle.field.proofs.Xor.{parity}
-use Rattle.field.proofs.Field.{digit-lt}
-use Rattle.field.proofs.Sums.{xorSum-next}
-use Rattle.field.proofs.Forms.{xorSum-end}
 use borrow.Author.Needs.{needs, elem-fits}
+use Rattle.forms.specs.Lists.{xorSum}
+use Rattle.forms.proofs.Xor.{parity}
+use Rattle.forms.proofs.Sums.{xorSum-next, xorSum-end}
+use Rattle.field.proofs.Field.{digit-lt}
 use Rattle.mixing.proofs.at_bits.Statement.{statement}
 use Rattle.mixing.proofs.at_bits.Tie as tie
 

@@ -1,16 +1,15 @@
 -- After j turns the sum is that over the bytes below j.
 -- Assumes nothing.
-use mathlib.Core.Path.{_≡_, refl, sym, ap₂, _∙_}
-use Prim.Native.Nat.{ℕ, _≤_, _-_}
+use mathlib.Core.Path.{_≡_, refl, ap₂, _∙_}
+use Prim.Native.Nat.{_≤_, _-_}
 use native.Mathlib.Omega.{arith}
 use lib.ListN.{getD}
-use Rattle.field.specs.Lists.{xorSum}
-use Rattle.field.specs.Words.{byte}
+use borrow.Author.Needs.{needs}
+use Rattle.forms.specs.Lists.{xorSum}
+use Rattle.forms.specs.Words.{byte}
+use Rattle.forms.proofs.Sums.{xorSum-next, xorSum-end}
 use Rattle.field.specs.Field.{mul}
 use Rattle.field.specs.Mixing.{dot}
-use Rattle.field.proofs.Sums.{xorSum-next}
-use Rattle.field.proofs.Forms.{xorSum-end}
-use borrow.Author.Needs.{needs}
 use Rattle.mixing.proofs.dot.Statement.{statement}
 use Rattle.mixing.proofs.dot.Tie as tie
 

@@ -1,17 +1,15 @@
 -- After j turns the word is the XOR over the bytes below j.
 -- Assumes nothing.
-use mathlib.Core.Path.{_≡_, refl, sym, ap, ap₂, _∙_}
-use Prim.Native.Nat.{ℕ, _≤_, _<_, _-_, _*_, _%_, _^_}
-use native.Mathlib.Nat.{mod-eq-of-lt}
+use mathlib.Core.Path.{_≡_, refl, ap₂, _∙_}
+use Prim.Native.Nat.{ℕ, _≤_, _-_, _*_}
 use native.Mathlib.Omega.{arith}
 use lib.ListN.{getD}
-use Rattle.field.specs.Lists.{xorSum}
-use Rattle.field.specs.Words.{byte, rotl}
-use Rattle.field.specs.Merged.{lookup}
-use Rattle.field.proofs.Sums.{xorSum-next}
-use Rattle.field.proofs.Words.{byte-is-lt}
-use Rattle.field.proofs.Forms.{xorSum-end}
 use borrow.Author.Needs.{needs}
+use Rattle.forms.specs.Lists.{xorSum}
+use Rattle.forms.specs.Words.{byte, rotl}
+use Rattle.forms.proofs.Sums.{xorSum-next, xorSum-end}
+use Rattle.forms.proofs.Words.{byte-is-lt}
+use Rattle.field.specs.Merged.{lookup}
 use Rattle.mixing.proofs.look_up.Statement.{statement}
 use Rattle.mixing.proofs.look_up.Tie as tie
 

@@ -1,15 +1,15 @@
 -- After i turns the rows below i are the matrix's.
 -- Assumes nothing.
-use mathlib.Core.Path.{_≡_, refl, sym, ap, _∙_}
-use mathlib.Core.List.{List, []}
+use mathlib.Core.Path.{_≡_, refl}
+use mathlib.Core.List.{[]}
 use Prim.Native.Nat.{ℕ, _≤_, _<_, _-_}
 use native.Mathlib.Nat.{not-suc-le-zero}
 use native.Mathlib.Omega.{arith}
 use lib.ListN.{getD, length, length-set}
-use Rattle.field.specs.Lists.{tabulate}
-use Rattle.field.specs.Mixing.{element, matrix}
-use Rattle.field.proofs.Lists.{fill, tabulated}
 use borrow.Author.Needs.{needs}
+use Rattle.forms.specs.Lists.{tabulate}
+use Rattle.forms.proofs.Lists.{getD-filled, tabulated}
+use Rattle.field.specs.Mixing.{element, matrix}
 use Rattle.mixing.proofs.matrix.Statement.{statement}
 use Rattle.mixing.proofs.matrix.Tie as tie
 
@@ -40,7 +40,7 @@ loop-less c = search needs
 loop-again : tie.Need-loop-again Inv-loop μ-loop
 loop-again c =
     let l = c .before .before .loop in
-    (omega arith, simp length-set (l .inv .1), fill _ [] (l .m) (l .i) _ (omega arith) (c .matrix-row .ensures) (l .inv .2))
+    (omega arith, simp length-set (l .inv .1), getD-filled _ [] (l .m) (l .i) _ (omega arith) (c .matrix-row .ensures) (l .inv .2))
 
 returns : tie.Need-returns Inv-loop μ-loop
 unfolding matrix

@@ -1,12 +1,12 @@
 -- After j turns the entries below j are the row's.
 -- Assumes nothing.
-use mathlib.Core.Path.{_≡_, refl, sym, ap, _∙_}
+use mathlib.Core.Path.{_≡_, refl}
 use Prim.Native.Nat.{ℕ, _≤_, _<_, _-_}
 use native.Mathlib.Omega.{arith}
 use lib.ListN.{getD, length, length-set}
-use Rattle.field.specs.Mixing.{element}
-use Rattle.field.proofs.Lists.{fill, tabulated}
 use borrow.Author.Needs.{needs}
+use Rattle.forms.proofs.Lists.{getD-filled, tabulated}
+use Rattle.field.specs.Mixing.{element}
 use Rattle.mixing.proofs.matrix_row.Statement.{statement}
 use Rattle.mixing.proofs.matrix_row.Tie as tie
 
@@ -41,7 +41,7 @@ loop-again : tie.Need-loop-again Inv-loop μ-loop
 unfolding element
 loop-again c =
     let l = c .before .loop in
-    (omega arith, simp length-set (l .inv .1), fill _ 0 (l .r) (l .j) _ (omega arith) refl (l .inv .2))
+    (omega arith, simp length-set (l .inv .1), getD-filled _ 0 (l .r) (l .j) _ (omega arith) refl (l .inv .2))
 
 returns : tie.Need-returns Inv-loop μ-loop
 returns c = let l = c .before .loop in tabulated 8 _ 0 (l .r) (l .inv .1) (λ k h. l .inv .2 k (omega arith))

@@ -1,13 +1,13 @@
 -- After i turns the word has the bytes below i.
 -- Assumes nothing.
-use mathlib.Core.Path.{_≡_, refl, sym, ap, _∙_}
+use mathlib.Core.Path.{_≡_, _∙_}
 use mathlib.Core.List.{[]}
-use Prim.Native.Nat.{ℕ, _≤_, _-_}
+use Prim.Native.Nat.{_≤_, _-_}
 use native.Mathlib.Omega.{arith}
 use lib.ListN.{getD}
-use Rattle.field.specs.Mixing.{dot, mixBy}
-use Rattle.field.proofs.Forms.{Joined, joined-none, joined-more, joined-end}
 use borrow.Author.Needs.{needs}
+use Rattle.forms.proofs.Words.{Joined, joined-none, joined-more, joined-end}
+use Rattle.field.specs.Mixing.{dot, mixBy}
 use Rattle.mixing.proofs.mix_by.Statement.{statement}
 use Rattle.mixing.proofs.mix_by.Tie as tie
 

@@ -4,14 +4,13 @@ use mathlib.Core.Path.{_≡_, refl, sym, ap₂, _∙_}
 use Prim.Native.Nat.{_≤_, _-_, _*_}
 use native.Mathlib.Omega.{arith}
 use lib.ListN.{getD}
-use Rattle.field.specs.Lists.{xorSum}
-use Rattle.field.specs.Words.{rotl}
-use Rattle.field.specs.Mixing.{mix, scale}
-use Rattle.field.proofs.Sums.{xorSum-next}
+use borrow.Author.Needs.{needs}
+use Rattle.forms.specs.Lists.{xorSum}
+use Rattle.forms.specs.Words.{rotl}
+use Rattle.forms.proofs.Sums.{xorSum-next, xorSum-end}
+use Rattle.field.specs.Mixing.{scale}
 use Rattle.field.proofs.Scale.{scale-powers}
 use Rattle.field.proofs.Mixing.{mix-coefficients}
-use Rattle.field.proofs.Forms.{xorSum-end}
-use borrow.Author.Needs.{needs}
 use Rattle.mixing.proofs.mix_row.Statement.{statement}
 use Rattle.mixing.proofs.mix_row.Tie as tie
 

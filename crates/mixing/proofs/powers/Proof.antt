@@ -6,11 +6,11 @@ use native.Mathlib.Nat.{not-suc-le-zero}
 use native.Mathlib.Numerals.{add-one}
 use native.Mathlib.Omega.{arith}
 use lib.ListN.{getD, length, length-set}
-use Rattle.field.specs.Lists.{iterate}
-use Rattle.field.specs.Words.{eachByte}
-use Rattle.field.specs.Field.{timesX}
-use Rattle.field.proofs.Lists.{fill, tabulated}
 use borrow.Author.Needs.{needs}
+use Rattle.forms.specs.Lists.{iterate}
+use Rattle.forms.specs.Words.{eachByte}
+use Rattle.forms.proofs.Lists.{getD-filled, tabulated}
+use Rattle.field.specs.Field.{timesX}
 use Rattle.mixing.proofs.powers.Statement.{statement}
 use Rattle.mixing.proofs.powers.Tie as tie
 
@@ -47,7 +47,7 @@ loop-again c =
       omega arith,
       simp length-set (l .inv .1),
       c .times-x-each .ensures ∙ ap (eachByte timesX) (l .inv .2) ∙ ap (λ (k : ℕ). iterate k (eachByte timesX) w) (sym (add-one (l .t))),
-      fill _ 0 (l .p) (l .t) _ (omega arith) (l .inv .2) (l .inv .3),
+      getD-filled _ 0 (l .p) (l .t) _ (omega arith) (l .inv .2) (l .inv .3),
     )
 
 returns : tie.Need-returns Inv-loop μ-loop

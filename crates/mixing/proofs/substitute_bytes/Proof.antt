@@ -1,14 +1,13 @@
 -- After i turns the word has the bytes below i.
 -- Assumes nothing.
-use mathlib.Core.Path.{_≡_, refl, sym, ap, _∙_}
+use mathlib.Core.Path.{_≡_, ap, _∙_}
 use Prim.Native.Nat.{ℕ, _≤_, _-_}
 use native.Mathlib.Omega.{arith}
 use lib.ListN.{getD}
-use Rattle.field.specs.Words.{byte, eachByte}
-use Rattle.field.specs.Substitution.{sub}
-use Rattle.field.proofs.Words.{byte-is-lt}
-use Rattle.field.proofs.Forms.{Joined, joined-none, joined-more, joined-end}
 use borrow.Author.Needs.{needs}
+use Rattle.forms.specs.Words.{byte, eachByte}
+use Rattle.forms.proofs.Words.{byte-is-lt, Joined, joined-none, joined-more, joined-end}
+use Rattle.field.specs.Substitution.{sub}
 use Rattle.mixing.proofs.substitute_bytes.Statement.{statement}
 use Rattle.mixing.proofs.substitute_bytes.Tie as tie
 

@@ -4,14 +4,15 @@ use mathlib.Core.List.{List}
 use Prim.Native.Nat.{ℕ, _*_}
 use native.Mathlib.Omega.{arith}
 use lib.ListN.{length}
+use borrow.Author.Needs.{needs}
+use Rattle.forms.proofs.Twice.{stopped, went-on}
 use Rattle.labyrinth.specs.Cipher.{article}
 use Rattle.labyrinth.specs.Keys.{E, U}
+use Rattle.labyrinth.proofs.Agree.{article-sound}
 use Rattle.modes.specs.Cbc.{cbcSeal, cbcOpen}
 use Rattle.modes.specs.Refusals.{cbcRefusal}
 use Rattle.modes.proofs.Again.{cbc-again}
-use Rattle.modes.proofs.Twice.{stopped, went-on}
 use Rattle.round_trips.proofs.Words.{words-small}
-use borrow.Author.Needs.{needs}
 use Rattle.round_trips.proofs.cbc_there_and_back.Statement.{statement}
 use Rattle.round_trips.proofs.cbc_there_and_back.Tie as tie
 
@@ -58,7 +59,7 @@ returns-2 c =
     let passed = c .before .before .before .before .before .if1 .left in
     let words = s .good .0 .1 .1 .1 .0 in
     went-on (first s) (second s) (there s) (back s) (a .src .now) (a .mid .now) (a .dst .now) (one .ensures .0) (one .ensures .1) passed (one .kept .1 .1 .1 .0)
-    (cbc-again (a .k .n) (a .k .words) (a .start .now) (a .src .now) (length (a .mid .now)) (words-small (a .k .words) (words .0) (words .1 .1))
+    (cbc-again article (a .k .n) (a .k .words) (a .start .now) (a .src .now) (length (a .mid .now)) article-sound (words-small (a .k .words) (words .0) (words .1 .1))
     (λ i. omega (arith, c .before .before .before .before .before .before .before .before .before .before .before .before .before .shared-slice-known .given i))
     (λ i. omega (arith, c .before .before .before .before .before .before .before .before .before .before .before .before .shared-slice-known2 .given i))
     (one .ensures .0) passed) (two .ensures .0) (two .ensures .1)

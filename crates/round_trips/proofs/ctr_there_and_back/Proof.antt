@@ -3,13 +3,13 @@
 use mathlib.Core.List.{List}
 use Prim.Native.Nat.{ℕ, _*_}
 use lib.ListN.{length}
+use borrow.Author.Needs.{needs}
+use Rattle.forms.proofs.Twice.{stopped, went-on}
 use Rattle.labyrinth.specs.Cipher.{article}
 use Rattle.labyrinth.specs.Keys.{E}
 use Rattle.modes.specs.Ctr.{ctr}
 use Rattle.modes.specs.Refusals.{ctrRefusal}
 use Rattle.modes.proofs.Again.{ctr-again}
-use Rattle.modes.proofs.Twice.{stopped, went-on}
-use borrow.Author.Needs.{needs}
 use Rattle.round_trips.proofs.ctr_there_and_back.Statement.{statement}
 use Rattle.round_trips.proofs.ctr_there_and_back.Tie as tie
 
@@ -52,7 +52,7 @@ returns-2 c =
     let two = c .before .before .run2 in
     let passed = c .before .before .before .before .before .if1 .left in
     went-on (first s) (second s) (over s) (over s) (a .src .now) (a .mid .now) (a .dst .now) (one .ensures .0) (one .ensures .1) passed (one .kept .1 .1 .1 .1 .0)
-    (ctr-again (a .k .n) (a .k .words) (a .start .now) (a .src .now) (length (a .mid .now)) (a .q) (one .ensures .0) passed) (two .ensures .0) (two .ensures .1)
+    (ctr-again article (a .k .n) (a .k .words) (a .start .now) (a .src .now) (length (a .mid .now)) (a .q) (one .ensures .0) passed) (two .ensures .0) (two .ensures .1)
 
 pub ctr-there-and-back-spec : {M : Type 1} → statement M
 ctr-there-and-back-spec =

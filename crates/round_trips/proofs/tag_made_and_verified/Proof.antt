@@ -3,38 +3,34 @@
 use mathlib.Core.Path.{refl, ap, _∙_}
 use Prim.Native.Nat.{ℕ}
 use lib.ListN.{length}
+use borrow.Author.Needs.{needs}
+use Rattle.forms.specs.Refusals.{outcome}
 use Rattle.labyrinth.specs.Cipher.{article}
 use Rattle.labyrinth.specs.Keys.{E}
-use Rattle.labyrinth.specs.Refusals.{outcome}
 use Rattle.modes.specs.Cmac.{tag}
 use Rattle.modes.specs.Refusals.{cmacRefusal}
 use Rattle.modes.proofs.Maps.{keeps-one}
 use Rattle.modes.proofs.Refusals.{cmac-taken}
 use Rattle.cmac.proofs.Tags.{made-verified}
-use borrow.Author.Needs.{needs}
 use Rattle.round_trips.proofs.tag_made_and_verified.Statement.{statement}
 use Rattle.round_trips.proofs.tag_made_and_verified.Tie as tie
 
--- src/lib.rt:61:5
 make-requires : tie.Need-make-requires
 make-requires c κs = search needs
 
--- src/lib.rt:62:5
 verify-requires : tie.Need-verify-requires
 verify-requires c κs = search needs
 
--- src/lib.rt:57:1
 same-length : tie.Need-same-length
 same-length c = search needs
 
--- src/lib.rt:57:1
 returns : tie.Need-returns
 returns c =
     let m = c .before .before .before .before in
     let a = m .before .before .before .before .args in
     let e = E article (a .k .n) (a .k .words) in
     let old = a .tag .now in (
-      made-verified e (a .message .now) old (cmacRefusal (a .k .n)) (λ z. let t = cmac-taken (a .k .n) (length old) refl z in (keeps-one (a .k .n) (a .k .words) (t .one), t .top))
+      made-verified e (a .message .now) old (cmacRefusal (a .k .n)) (λ z. let t = cmac-taken (a .k .n) (length old) refl z in (keeps-one article (a .k .n) (a .k .words) (t .one), t .top))
           (m .make .ensures .0) (m .make .ensures .1) (m .make .kept .1 .1 .0) (c .verify .ensures),
       m .make .ensures .1 ∙ ap (λ (n : ℕ). outcome n (tag e (length old) (a .message .now)) old) (m .make .ensures .0),
     )

@@ -4,12 +4,12 @@ use mathlib.Core.Path.{_≡_, sym, ap, _∙_}
 use Prim.Native.Nat.{ℕ, _≤_, _<_, _-_}
 use native.Mathlib.Omega.{arith}
 use lib.ListN.{length, getD, length-set}
+use borrow.Author.Needs.{needs}
+use Rattle.forms.proofs.Lists.{getD-filled, tabulated}
 use Rattle.field.specs.Substitution.{sub}
 use Rattle.field.specs.Mixing.{scale}
 use Rattle.field.specs.Merged.{entry, merged}
-use Rattle.field.proofs.Lists.{fill, tabulated}
 use Rattle.field.proofs.Merged.{LCM-scale}
-use borrow.Author.Needs.{needs}
 use Rattle.rows.proofs.fill.Statement.{statement}
 use Rattle.rows.proofs.fill.Tie as tie
 
@@ -47,7 +47,7 @@ loop-again : tie.Need-loop-again Inv-loop μ-loop
 unfolding sub
 loop-again c =
     let l = c .before .before .before .loop in
-    (omega arith, rw length-set (l .inv .1), fill _ 0 (l .table) (l .b) _ (omega arith) (c .times-each .ensures) (l .inv .2))
+    (omega arith, rw length-set (l .inv .1), getD-filled _ 0 (l .table) (l .b) _ (omega arith) (c .times-each .ensures) (l .inv .2))
 
 same-length : tie.Need-same-length Inv-loop μ-loop
 same-length c = search needs

@@ -3,14 +3,14 @@
 use mathlib.Core.Path.{_≡_, sym, ap, ap₂, _∙_}
 use mathlib.Core.List.{List}
 use Prim.Native.Nat.{ℕ}
-use Rattle.field.specs.Lists.{iterate}
+use borrow.Author.Needs.{needs}
+use Rattle.forms.specs.Lists.{iterate}
 use Rattle.field.specs.Field.{power}
 use Rattle.field.specs.Mixing.{mix, rowSum, scale}
 use Rattle.rows.specs.Inverse.{reciprocal, inverted}
 use Rattle.rows.proofs.Rows.{row-zero, row-iff}
 use Rattle.rows.proofs.Ring.{bytesOf}
 use Rattle.rows.proofs.Inverses.{inverse-bytes, inverted-done}
-use borrow.Author.Needs.{needs}
 use Rattle.rows.proofs.inverse.Statement.{statement}
 use Rattle.rows.proofs.inverse.Tie as tie
 

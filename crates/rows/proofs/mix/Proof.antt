@@ -1,22 +1,21 @@
--- A row that XORs to zero, or the word mixed by the row.
+-- A row that is refused, or the word mixed by the row.
 -- Assumes nothing.
 use mathlib.Core.Path.{sym, ap, _∙_}
 use Prim.Native.Nat.{ℕ}
-use Rattle.rows.specs.Rows.{mixed}
-use Rattle.rows.proofs.Rows.{row-zero, row-iff, mixed-done}
 use borrow.Author.Needs.{needs}
+use Rattle.rows.specs.Rows.{mixed}
+use Rattle.rows.proofs.Rows.{mixed-done, mixed-refused}
 use Rattle.rows.proofs.mix.Statement.{statement}
 use Rattle.rows.proofs.mix.Tie as tie
 
-row-sum-requires : tie.Need-row-sum-requires
-row-sum-requires c κs = search needs
+row-refusal-requires : tie.Need-row-refusal-requires
+row-refusal-requires c κs = search needs
 
 returns : tie.Need-returns
-unfolding mixed
 returns c =
     let s = c .before in
     let a = s .before .args in
-    sym (ap (mixed (a .g) (a .w)) (row-zero (a .g) (sym (s .row-sum .ensures) ∙ c .if1 .taken)))
+    sym (mixed-refused (a .g) (a .w) (s .row-refusal .result) (c .if1 .taken)) ∙ ap (mixed (a .g) (a .w)) (s .row-refusal .ensures)
 
 mix-row-requires : tie.Need-mix-row-requires
 mix-row-requires c κs = search needs
@@ -26,7 +25,7 @@ returns-2 c =
     let s = c .before .before in
     let a = s .before .args in
     ap (λ (x : ℕ). record { number = 0; word = x }) (c .mix-row .ensures)
-    ∙ sym (mixed-done (a .g) (a .w) (row-iff (a .g) .1 (λ z. c .before .if1 .left (s .row-sum .ensures ∙ z))))
+    ∙ sym (mixed-done (a .g) (a .w) (sym (s .row-refusal .ensures) ∙ c .before .if1 .left))
 
 pub mix-spec : {M : Type 1} → statement M
-mix-spec = tie.close (tie.spec row-sum-requires returns mix-row-requires returns-2)
+mix-spec = tie.close (tie.spec row-refusal-requires returns mix-row-requires returns-2)

@@ -4,9 +4,9 @@ use mathlib.Core.Path.{_≡_, refl, sym, ap, _∙_}
 use Prim.Native.Nat.{ℕ, _≤_, _-_}
 use native.Mathlib.Numerals.{add-one}
 use native.Mathlib.Omega.{arith}
-use Rattle.field.specs.Lists.{iterate}
-use Rattle.field.specs.Mixing.{mix}
 use borrow.Author.Needs.{needs}
+use Rattle.forms.specs.Lists.{iterate}
+use Rattle.field.specs.Mixing.{mix}
 use Rattle.rows.proofs.power.Statement.{statement}
 use Rattle.rows.proofs.power.Tie as tie
 

@@ -1,8 +1,8 @@
 -- A word stored in a buffer of its own.
 -- Assumes nothing.
-use Rattle.field.specs.Lists.{tabulate}
-use Rattle.buffers.specs.Words.{inside, withWord}
 use borrow.Author.Needs.{needs}
+use Rattle.forms.specs.Lists.{tabulate}
+use Rattle.buffers.specs.Words.{inside, withWord}
 use Rattle.rows.proofs.row_of.Statement.{statement}
 use Rattle.rows.proofs.row_of.Tie as tie
 

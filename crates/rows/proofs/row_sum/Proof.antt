@@ -4,11 +4,10 @@ use mathlib.Core.Path.{_≡_, refl}
 use Prim.Native.Nat.{_≤_, _-_}
 use native.Mathlib.Omega.{arith}
 use lib.ListN.{getD}
-use Rattle.field.specs.Lists.{xorSum}
-use Rattle.field.specs.Mixing.{rowSum}
-use Rattle.field.proofs.Sums.{xorSum-next}
-use Rattle.field.proofs.Forms.{xorSum-end}
 use borrow.Author.Needs.{needs}
+use Rattle.forms.specs.Lists.{xorSum}
+use Rattle.forms.proofs.Sums.{xorSum-next, xorSum-end}
+use Rattle.field.specs.Mixing.{rowSum}
 use Rattle.rows.proofs.row_sum.Statement.{statement}
 use Rattle.rows.proofs.row_sum.Tie as tie
 

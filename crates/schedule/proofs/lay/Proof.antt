@@ -3,10 +3,9 @@
 use mathlib.Core.Path.{_≡_, ap, _∙_}
 use Prim.Native.Nat.{ℕ, _≤_, _-_}
 use native.Mathlib.Omega.{arith}
-use Rattle.field.specs.Lists.{tabulate}
-use Rattle.labyrinth.specs.Working.{wordsFrom}
-use Rattle.labyrinth.proofs.Buffers.{put, put-none, put-words}
 use borrow.Author.Needs.{needs}
+use Rattle.forms.specs.Lists.{tabulate, wordsFrom}
+use Rattle.forms.proofs.Buffers.{put, put-none, put-words}
 use Rattle.schedule.proofs.lay.Statement.{statement}
 use Rattle.schedule.proofs.lay.Tie as tie
 

@@ -4,11 +4,11 @@ use mathlib.Core.Path.{_≡_, refl, _∙_}
 use Prim.Native.Nat.{_≤_, _<_, _+_, _-_, _*_}
 use native.Mathlib.Omega.{arith}
 use lib.ListN.{replicate}
-use Rattle.field.specs.Lists.{tabulate}
-use Rattle.labyrinth.specs.Keys.{order}
-use Rattle.labyrinth.proofs.Buffers.{put}
-use Rattle.labyrinth.proofs.Schedule.{within, laidWord, laid-first, laid-next, laid-length, laid-all, useOrder-lt}
 use borrow.Author.Needs.{needs}
+use Rattle.forms.specs.Lists.{tabulate}
+use Rattle.forms.proofs.Buffers.{put}
+use Rattle.labyrinth.specs.Keys.{order}
+use Rattle.labyrinth.proofs.Schedule.{within, laidWord, laid-first, laid-next, laid-length, laid-all, useOrder-lt}
 use Rattle.schedule.proofs.lay_all.Statement.{statement}
 use Rattle.schedule.proofs.lay_all.Tie as tie
 

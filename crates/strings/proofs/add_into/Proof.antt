@@ -5,9 +5,9 @@ use Prim.Native.Nat.{ℕ, _+_, _-_, _/_, _%_, _^_, _≤_, _<_}
 use native.Mathlib.Omega.{arith}
 use lib.ListN.{length, getD, take, set, length-set}
 use borrow.Author.Tests.{not-false, eqb-true}
-use Rattle.modes.specs.Strings.{number, string}
-use Rattle.strings.proofs.Adding.{added, added-first, added-next, before-next, added-none, scaled-all}
 use borrow.Author.Needs.{needs}
+use Rattle.forms.specs.Strings.{number, string}
+use Rattle.strings.proofs.Adding.{added, added-first, added-next, before-next, added-none, scaled-all}
 use Rattle.strings.proofs.add_into.Statement.{statement}
 use Rattle.strings.proofs.add_into.Tie as tie
 

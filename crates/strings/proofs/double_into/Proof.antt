@@ -5,9 +5,9 @@ use Prim.Native.Nat.{ℕ, _+_, _-_, _*_, _/_, _%_, _^_, _≤_, _<_}
 use native.Mathlib.Nat.{add-zero}
 use native.Mathlib.Omega.{arith}
 use lib.ListN.{length, getD, length-set}
-use Rattle.modes.specs.Strings.{number, string}
-use Rattle.strings.proofs.Adding.{scaled, scaled-first, scaled-next, scaled-all}
 use borrow.Author.Needs.{needs}
+use Rattle.forms.specs.Strings.{number, string}
+use Rattle.strings.proofs.Adding.{scaled, scaled-first, scaled-next, scaled-all}
 use Rattle.strings.proofs.double_into.Statement.{statement}
 use Rattle.strings.proofs.double_into.Tie as tie
 

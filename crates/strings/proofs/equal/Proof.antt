@@ -4,9 +4,9 @@ use mathlib.Core.Path.{_≡_, refl, sym, _∙_}
 use Prim.Native.Nat.{_-_, _≤_}
 use native.Mathlib.Omega.{arith}
 use lib.ListN.{length}
-use Rattle.modes.specs.Strings.{same}
-use Rattle.strings.proofs.Comparing.{same-not, compared, compared-next, compared-all}
 use borrow.Author.Needs.{needs}
+use Rattle.forms.specs.Strings.{same}
+use Rattle.strings.proofs.Comparing.{same-not, compared, compared-next, compared-all}
 use Rattle.strings.proofs.equal.Statement.{statement}
 use Rattle.strings.proofs.equal.Tie as tie
 

@@ -5,10 +5,10 @@ use mathlib.Core.List.{List, _++_}
 use Prim.Native.Nat.{ℕ, _-_, _≤_}
 use native.Mathlib.Omega.{arith}
 use lib.ListN.{length, take, drop, length-set}
-use Rattle.modes.specs.Strings.{xorBytes}
-use Rattle.modes.proofs.Strings.{length-shorter, getD-xorBytes}
-use Rattle.strings.proofs.Laying.{lay-next, lay-all, lay-behind}
 use borrow.Author.Needs.{needs}
+use Rattle.forms.specs.Strings.{xorBytes}
+use Rattle.forms.proofs.Strings.{length-shorter, getD-xorBytes}
+use Rattle.strings.proofs.Laying.{lay-next, lay-all, lay-behind}
 use Rattle.strings.proofs.xor_to.Statement.{statement}
 use Rattle.strings.proofs.xor_to.Tie as tie
 

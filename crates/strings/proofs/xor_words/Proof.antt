@@ -6,11 +6,11 @@ use Prim.Native.Nat.{ℕ, _+_, _-_, _≤_}
 use native.Mathlib.Omega.{arith}
 use lib.Bits.{bitXor}
 use lib.ListN.{length, take, drop}
-use Rattle.buffers.specs.Words.{wordAt, withWord}
-use Rattle.modes.specs.Strings.{xorBytes}
-use Rattle.modes.proofs.Strings.{length-shorter}
-use Rattle.strings.proofs.Laying.{lay-word, xor-word}
 use borrow.Author.Needs.{needs}
+use Rattle.forms.specs.Strings.{xorBytes}
+use Rattle.forms.proofs.Strings.{length-shorter}
+use Rattle.buffers.specs.Words.{wordAt, withWord}
+use Rattle.strings.proofs.Laying.{lay-word, xor-word}
 use Rattle.strings.proofs.xor_words.Statement.{statement}
 use Rattle.strings.proofs.xor_words.Tie as tie
 

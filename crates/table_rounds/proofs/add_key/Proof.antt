@@ -4,9 +4,10 @@ use mathlib.Core.Path.{_≡_}
 use Prim.Native.Nat.{_+_, _-_, _≤_}
 use native.Mathlib.Omega.{arith}
 use lib.ListN.{getD}
-use Rattle.labyrinth.specs.Blocks.{plus}
-use Rattle.labyrinth.proofs.Rounds.{Replaced, replaced-none, replaced-more, added}
 use borrow.Author.Needs.{needs}
+use Rattle.forms.proofs.Lists.{Replaced, replaced-none, replaced-more}
+use Rattle.labyrinth.specs.Blocks.{plus}
+use Rattle.labyrinth.proofs.Rounds.{added}
 use Rattle.table_rounds.proofs.add_key.Statement.{statement}
 use Rattle.table_rounds.proofs.add_key.Tie as tie
 

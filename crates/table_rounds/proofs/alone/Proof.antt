@@ -4,9 +4,9 @@ use mathlib.Core.Path.{refl, sym}
 use lib.ListN.{getD}
 use borrow.Kind.Array.{good-length, eInt}
 use mir.Syntax.{w64}
-use Rattle.field.specs.Lists.{tabulate}
-use Rattle.field.proofs.Lists.{tabulated}
 use borrow.Author.Needs.{needs}
+use Rattle.forms.specs.Lists.{tabulate}
+use Rattle.forms.proofs.Lists.{tabulated}
 use Rattle.table_rounds.proofs.alone.Statement.{statement}
 use Rattle.table_rounds.proofs.alone.Tie as tie
 

@@ -2,10 +2,10 @@
 -- Assumes nothing.
 use mathlib.Core.Path.{ap, _∙_}
 use native.Mathlib.Omega.{arith}
-use Rattle.field.proofs.Words.{byte-is-lt}
+use borrow.Author.Needs.{needs}
+use Rattle.forms.proofs.Words.{byte-is-lt}
 use Rattle.labyrinth.specs.Working.{tableWords}
 use Rattle.labyrinth.proofs.Permutation.{share-eight, share-one}
-use borrow.Author.Needs.{needs}
 use Rattle.table_rounds.proofs.merged_word.Statement.{statement}
 use Rattle.table_rounds.proofs.merged_word.Tie as tie
 

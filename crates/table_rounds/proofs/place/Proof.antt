@@ -1,8 +1,8 @@
 -- The place is the byte itself.
 -- Assumes nothing.
 use mathlib.Core.Path.{refl}
-use Rattle.field.specs.Words.{byte}
 use borrow.Author.Needs.{needs}
+use Rattle.forms.specs.Words.{byte}
 use Rattle.table_rounds.proofs.place.Statement.{statement}
 use Rattle.table_rounds.proofs.place.Tie as tie
 

@@ -2,9 +2,9 @@
 -- Assumes nothing.
 use Prim.Native.Nat.{_-_, _*_}
 use native.Mathlib.Omega.{arith}
-use Rattle.labyrinth.specs.Working.{both, lookupIn}
-use Rattle.labyrinth.proofs.Rounds.{Ran, ran-none, ran-room, ran-more, ran-all}
 use borrow.Author.Needs.{needs}
+use Rattle.labyrinth.specs.Working.{both, lookupIn}
+use Rattle.labyrinth.proofs.Rounds.{Ran, ran-none, ran-inside, ran-more, ran-all}
 use Rattle.table_rounds.proofs.rounds_of.Statement.{statement}
 use Rattle.table_rounds.proofs.rounds_of.Tie as tie
 
@@ -27,12 +27,12 @@ round-requires : tie.Need-round-requires Inv-loop μ-loop
 round-requires c κs =
     let s = c .before .before .before .before .before in
     let p = c .before .before .before .loop .inv in
-    (s .pre .0, ran-room _ _ (s .pre .0) _ _ (s .pre .2) (s .pre .3) (omega arith) p, s .pre .1, p .high, p .low, s .pre .4)
+    (s .pre .0, ran-inside _ _ (s .pre .0) _ _ (s .pre .2) (s .pre .3) (omega arith) p, s .pre .1, p .high, p .low, s .pre .4)
 
 add-at : tie.Need-add-at Inv-loop μ-loop
 add-at c =
     let s = c .before .before .before .before .before .before in
-    omega (arith, ran-room _ _ (s .pre .0) _ _ (s .pre .2) (s .pre .3) (omega arith) (c .before .before .before .before .loop .inv))
+    omega (arith, ran-inside _ _ (s .pre .0) _ _ (s .pre .2) (s .pre .3) (omega arith) (c .before .before .before .before .loop .inv))
 
 loop-less : tie.Need-loop-less Inv-loop μ-loop
 loop-less c = search needs

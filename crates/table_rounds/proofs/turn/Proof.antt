@@ -2,8 +2,8 @@
 -- Assumes nothing.
 use Prim.Native.Nat.{_*_}
 use native.Mathlib.Omega.{arith}
-use Rattle.field.proofs.Forms.{rotl-code}
 use borrow.Author.Needs.{needs}
+use Rattle.forms.proofs.Words.{rotl-code}
 use Rattle.table_rounds.proofs.turn.Statement.{statement}
 use Rattle.table_rounds.proofs.turn.Tie as tie
 

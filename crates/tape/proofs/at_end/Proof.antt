@@ -1,10 +1,10 @@
 -- The number alone, and the next state is the ended one.
 -- Assumes nothing.
 use mathlib.Core.Path.{sym, ap}
-use Rattle.tape.specs.declared.Tape.{Tape}
-use Rattle.tape.specs.Steps.{refuses}
-use Rattle.tape.proofs.Cases.{gives}
 use borrow.Author.Needs.{needs}
+use Rattle.tape_rules.specs.declared.Tape.{Tape}
+use Rattle.tape_rules.specs.Steps.{refuses}
+use Rattle.tape_rules.proofs.Cases.{gives}
 use Rattle.tape.proofs.at_end.Statement.{statement}
 use Rattle.tape.proofs.at_end.Tie as tie
 

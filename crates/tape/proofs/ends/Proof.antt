@@ -1,8 +1,8 @@
 -- The next state is the ended one.
 -- Assumes nothing.
 use mathlib.Core.Path.{ap}
-use Rattle.tape.specs.declared.Tape.{Tape}
 use borrow.Author.Needs.{needs}
+use Rattle.tape_rules.specs.declared.Tape.{Tape}
 use Rattle.tape.proofs.ends.Statement.{statement}
 use Rattle.tape.proofs.ends.Tie as tie
 

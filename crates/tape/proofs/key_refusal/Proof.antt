@@ -5,9 +5,9 @@ use Prim.Native.Nat.{_*_, _≤_}
 use native.Mathlib.Nat.{mul-le-mul}
 use native.Mathlib.Omega.{arith}
 use borrow.Author.Tests.{not-true, not-false}
-use Rattle.operands.specs.Operands.{zeros}
-use Rattle.tape.proofs.Cases.{Key-taken, from-on, key-refused, key-passed, key-unused, key-good}
 use borrow.Author.Needs.{needs}
+use Rattle.operands.specs.Operands.{zeros}
+use Rattle.tape_rules.proofs.Cases.{Key-taken, from-on, key-refused, key-passed, key-unused, key-good}
 use Rattle.tape.proofs.key_refusal.Statement.{statement}
 use Rattle.tape.proofs.key_refusal.Tie as tie
 

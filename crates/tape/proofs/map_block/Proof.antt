@@ -1,4 +1,4 @@
--- Each way out is one of the definition's rules; the block goes through a room of its own.
+-- Each way out is one of the definition's rules; the block goes through 64 bytes of its own.
 -- Assumes nothing.
 use mathlib.Core.Path.{_≡_, sym, ap, _∙_}
 use mathlib.Core.List.{_++_}
@@ -6,12 +6,13 @@ use Prim.Native.Nat.{_+_, _-_, _*_}
 use native.Mathlib.Omega.{arith}
 use lib.ListN.{length, take, drop, length-append}
 use lib.Seq.{take-at, length-take-le}
-use Rattle.labyrinth.specs.Working.{Size, way}
-use Rattle.modes.proofs.Parts.{part-length}
-use Rattle.tape.specs.declared.Tape.{Tape}
-use Rattle.tape.specs.Steps.{refuses}
-use Rattle.tape.proofs.Cases.{gives, map-size, mapBlock-short, mapBlock-refused, mapBlock-done}
 use borrow.Author.Needs.{needs}
+use Rattle.forms.proofs.Parts.{part-length}
+use Rattle.labyrinth.specs.Cipher.{article}
+use Rattle.labyrinth.specs.Working.{Size, way}
+use Rattle.tape_rules.specs.declared.Tape.{Tape}
+use Rattle.tape_rules.specs.Steps.{refuses}
+use Rattle.tape_rules.proofs.Cases.{gives, map-size, mapBlock-short, mapBlock-refused, mapBlock-done}
 use Rattle.tape.proofs.map_block.Statement.{statement}
 use Rattle.tape.proofs.map_block.Tie as tie
 
@@ -28,7 +29,7 @@ returns : tie.Need-returns
 returns c =
     let a = c .before .before .before .before .before .before .before .before .args in
     gives (a .answer .now)
-    (mapBlock-short (way (a .back)) (a .t) (a .rest .now) (c .before .before .before .before .before .if1 .taken) ∙ ap (λ (x : Tape). refuses x 8 (length (a .rest .now))) (sym (c .before .before .before .before .ended .ensures)))
+    (mapBlock-short (way article (a .back)) (a .t) (a .rest .now) (c .before .before .before .before .before .if1 .taken) ∙ ap (λ (x : Tape). refuses x 8 (length (a .rest .now))) (sym (c .before .before .before .before .ended .ensures)))
     (c .before .before .say-number .ensures)
 
 sub-map-refusal : tie.Need-sub-map-refusal
@@ -54,7 +55,7 @@ returns-2 c =
     let n = c .before .before .before .before in
     let a = n .before .before .before .before .before .before .args in
     gives (a .answer .now)
-    (mapBlock-refused (way (a .back)) (a .t) (a .rest .now) (n .before .before .before .if1 .left) (n .before .map-refusal .ensures) (n .if2 .taken))
+    (mapBlock-refused (way article (a .back)) (a .t) (a .rest .now) (n .before .before .before .if1 .left) (n .before .map-refusal .ensures) (n .if2 .taken))
     (c .before .before .say-number2 .ensures)
 
 size : (c : tie.Else2) → Size (c .before .before .before .before .before .before .args .t .key .n)
@@ -68,8 +69,8 @@ mul-used c = let s = size (c .before .before) in omega arith
 add-end : tie.Need-add-end
 add-end c = let s = size (c .before .before) in omega arith
 
-room-requires : tie.Need-room-requires
-room-requires c κs = search needs
+zero-block-requires : tie.Need-zero-block-requires
+zero-block-requires c κs = search needs
 
 sub-map-used : tie.Need-sub-map-used
 sub-map-used c = search needs
@@ -83,40 +84,40 @@ part-map-used-end c = let s = size (c .before .before .before) in omega (arith, 
 array-borrow-prefix-block : tie.Need-array-borrow-prefix-block
 array-borrow-prefix-block c = let s = size (c .before .before .before .before) in omega arith
 
-room-long : (c : tie.After-map-used-arg) → let n = c .before .before .before .before .before .before .before .before .before .before .args .t .key .n in length (take (16 * n) (c .before .room .result)) ≡ 16 * n
-room-long c =
+block-long : (c : tie.After-map-used-arg) → let n = c .before .before .before .before .before .before .before .before .before .before .args .t .key .n in length (take (16 * n) (c .before .zero-block .result)) ≡ 16 * n
+block-long c =
     let n = c .before .before .before .before .before .before .before .before .before .before .args .t .key .n in
     let s = size (c .before .before .before .before) in
-    length-take-le (16 * n) (c .before .room .result) (omega (arith, c .before .room .ensures .0))
+    length-take-le (16 * n) (c .before .zero-block .result) (omega (arith, c .before .zero-block .ensures .0))
 
 slice-aggregate-map-used : tie.Need-slice-aggregate-map-used
-slice-aggregate-map-used c = sym (room-long (c .before))
+slice-aggregate-map-used c = sym (block-long (c .before))
 
 map-used-requires : tie.Need-map-used-requires
 map-used-requires c κs =
     let s = size (c .before .before .before .before .before) in
     let a = c .before .before .before .before .before .before .before .before .before .before .before .args in
     let e : 1 + 16 * a .t .key .n - 1 ≡ 16 * a .t .key .n = omega arith in
-    (s, part-length (a .rest .now) 1 (1 + 16 * a .t .key .n) (omega arith) (omega (arith, c .before .before .before .before .before .before .before .before .if1 .left)) ∙ e, room-long (c .before))
+    (s, part-length (a .rest .now) 1 (1 + 16 * a .t .key .n) (omega arith) (omega (arith, c .before .before .before .before .before .before .before .before .if1 .left)) ∙ e, block-long (c .before))
 
--- the front of the room is what came out
+-- the front of the 64 bytes is what came out
 mapped-long : (c : tie.After-map-used) → length (c .map-used .last .1 .1 .1 .0) ≡ 16 * c .before .before .before .before .before .before .before .before .before .before .before .before .args .t .key .n
-mapped-long c = c .map-used .kept .1 .1 .1 .0 ∙ room-long (c .before .before)
+mapped-long c = c .map-used .kept .1 .1 .1 .0 ∙ block-long (c .before .before)
 
 mapped-front : (c : tie.After-map-used)
-    → let n = c .before .before .before .before .before .before .before .before .before .before .before .before .args .t .key .n in take (16 * n) (c .map-used .last .1 .1 .1 .0 ++ drop (16 * n) (c .before .before .before .room .result)) ≡ c .map-used .last .1 .1 .1 .0
+    → let n = c .before .before .before .before .before .before .before .before .before .before .before .before .args .t .key .n in take (16 * n) (c .map-used .last .1 .1 .1 .0 ++ drop (16 * n) (c .before .before .before .zero-block .result)) ≡ c .map-used .last .1 .1 .1 .0
 mapped-front c = take-at (c .map-used .last .1 .1 .1 .0) _ _ (mapped-long c)
 
 mapped : (c : tie.After-map-used)
     → let a = c .before .before .before .before .before .before .before .before .before .before .before .before .args in
-    take (16 * a .t .key .n) (c .map-used .last .1 .1 .1 .0 ++ drop (16 * a .t .key .n) (c .before .before .before .room .result))
-    ≡ way (a .back) (a .t .key .n) (a .t .key .words) (take (1 + 16 * a .t .key .n - 1) (drop 1 (a .rest .now)))
+    take (16 * a .t .key .n) (c .map-used .last .1 .1 .1 .0 ++ drop (16 * a .t .key .n) (c .before .before .before .zero-block .result))
+    ≡ way article (a .back) (a .t .key .n) (a .t .key .words) (take (1 + 16 * a .t .key .n - 1) (drop 1 (a .rest .now)))
 mapped c = mapped-front c ∙ c .map-used .ensures
 
 array-share-prefix-block : tie.Need-array-share-prefix-block
 array-share-prefix-block c =
     let n = c .before .before .before .before .before .before .before .before .before .before .before .before .before .args .t .key .n in
-    omega (arith, length-append (c .before .map-used .last .1 .1 .1 .0) (drop (16 * n) (c .before .before .before .before .room .result)), mapped-long (c .before))
+    omega (arith, length-append (c .before .map-used .last .1 .1 .1 .0) (drop (16 * n) (c .before .before .before .before .zero-block .result)), mapped-long (c .before))
 
 slice-aggregate-say-bytes : tie.Need-slice-aggregate-say-bytes
 slice-aggregate-say-bytes c = sym (ap length (mapped-front (c .before .before)) ∙ mapped-long (c .before .before))
@@ -135,7 +136,7 @@ returns-3 c =
     let n = c .before .before .before .before .before .before .before .before .before .before .before .before in
     let a = n .before .before .before .before .before .before .args in
     gives (a .answer .now)
-    (mapBlock-done (way (a .back)) (a .t) (a .rest .now) (n .before .before .before .if1 .left) (n .before .map-refusal .ensures) (n .if2 .left) (mapped m))
+    (mapBlock-done (way article (a .back)) (a .t) (a .rest .now) (n .before .before .before .if1 .left) (n .before .map-refusal .ensures) (n .if2 .left) (mapped m))
     (c .before .before .say-bytes .ensures)
 
 pub map-block-spec : {M : Type 1} → statement M
@@ -155,7 +156,7 @@ map-block-spec =
     returns-2
     mul-used
     add-end
-    room-requires
+    zero-block-requires
     sub-map-used
     part-map-used-start
     part-map-used-end

@@ -5,12 +5,12 @@ use mathlib.Core.Bool.{true}
 use Prim.Native.Nat.{_*_}
 use native.Mathlib.Omega.{arith}
 use borrow.Author.Tests.{not-true, not-false}
+use borrow.Author.Needs.{needs}
 use Rattle.labyrinth.specs.Refusals.{legal}
 use Rattle.labyrinth.specs.Working.{Size}
 use Rattle.labyrinth.proofs.Refusals.{legal-size-of}
 use Rattle.operands.specs.Operands.{zeros}
-use Rattle.tape.proofs.Cases.{from-on, map-unset, map-illegal, map-unused, map-good}
-use borrow.Author.Needs.{needs}
+use Rattle.tape_rules.proofs.Cases.{from-on, map-unset, map-illegal, map-unused, map-good}
 use Rattle.tape.proofs.map_refusal.Statement.{statement}
 use Rattle.tape.proofs.map_refusal.Tie as tie
 

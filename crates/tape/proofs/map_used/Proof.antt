@@ -2,10 +2,11 @@
 -- Assumes nothing.
 use mathlib.Core.Path.{sym, ap, _∙_}
 use mathlib.Core.Bool.{Bool}
-use Rattle.labyrinth.specs.Refusals.{outcome}
-use Rattle.labyrinth.specs.Working.{way}
-use Rattle.tape.proofs.Cases.{map-used}
 use borrow.Author.Needs.{needs}
+use Rattle.forms.specs.Refusals.{outcome}
+use Rattle.labyrinth.specs.Cipher.{article}
+use Rattle.labyrinth.specs.Working.{way}
+use Rattle.tape_rules.proofs.Cases.{map-used}
 use Rattle.tape.proofs.map_used.Statement.{statement}
 use Rattle.tape.proofs.map_used.Tie as tie
 
@@ -24,7 +25,7 @@ returns c =
     let start = c .before .before .before .before .before .before .before in
     let a = start .args in
     map-used (a .k .n) (a .src .now) (a .dst .now) (start .pre .0) (start .pre .1) (start .pre .2) (call .ensures .0)
-    (call .ensures .1 ∙ ap (λ (b : Bool). outcome (call .result) (way b (a .k .n) (a .k .words) (a .src .now)) (a .dst .now)) (sym (c .before .before .before .before .if1 .taken)))
+    (call .ensures .1 ∙ ap (λ (b : Bool). outcome (call .result) (way article b (a .k .n) (a .k .words) (a .src .now)) (a .dst .now)) (sym (c .before .before .before .before .if1 .taken)))
 
 same-length-2 : tie.Need-same-length-2
 same-length-2 c = search needs
@@ -35,7 +36,7 @@ returns-2 c =
     let start = c .before .before .before .before .before .before .before in
     let a = start .args in
     map-used (a .k .n) (a .src .now) (a .dst .now) (start .pre .0) (start .pre .1) (start .pre .2) (call .ensures .0)
-    (call .ensures .1 ∙ ap (λ (b : Bool). outcome (call .result) (way b (a .k .n) (a .k .words) (a .src .now)) (a .dst .now)) (sym (c .before .before .before .before .if1 .left)))
+    (call .ensures .1 ∙ ap (λ (b : Bool). outcome (call .result) (way article b (a .k .n) (a .k .words) (a .src .now)) (a .dst .now)) (sym (c .before .before .before .before .if1 .left)))
 
 pub map-used-spec : {M : Type 1} → statement M
 map-used-spec =

@@ -5,15 +5,16 @@ use mathlib.Core.List.{List}
 use Prim.Native.Nat.{ℕ}
 use native.Mathlib.Omega.{arith}
 use lib.ListN.{length, take, drop, replicate}
+use borrow.Author.Needs.{needs}
+use Rattle.forms.specs.Words.{words, bytes}
+use Rattle.forms.proofs.Parts.{part-length}
+use Rattle.strings.proofs.Laying.{laid-whole}
 use Rattle.field.specs.Mixing.{mix}
 use Rattle.field.specs.Published.{row}
-use Rattle.labyrinth.specs.Blocks.{each, words, bytes}
-use Rattle.modes.proofs.Parts.{part-length}
-use Rattle.strings.proofs.Laying.{laid-whole}
-use Rattle.tape.specs.declared.Tape.{Tape}
-use Rattle.tape.specs.Steps.{refuses}
-use Rattle.tape.proofs.Cases.{gives, mixWord-short, mixWord-done}
-use borrow.Author.Needs.{needs}
+use Rattle.labyrinth.specs.Blocks.{each}
+use Rattle.tape_rules.specs.declared.Tape.{Tape}
+use Rattle.tape_rules.specs.Steps.{refuses}
+use Rattle.tape_rules.proofs.Cases.{gives, mixWord-short, mixWord-done}
 use Rattle.tape.proofs.mix_word.Statement.{statement}
 use Rattle.tape.proofs.mix_word.Tie as tie
 

@@ -1,10 +1,10 @@
 -- Each arm is one of the definition's commands.
 -- Assumes nothing.
 use mathlib.Core.Path.{refl, sym, ap, _∙_}
-use Rattle.tape.specs.declared.Tape.{Tape}
-use Rattle.tape.specs.Steps.{refuses}
-use Rattle.tape.proofs.Cases.{gives, command-0, command-1, command-3, command-4, command-5, command-other}
 use borrow.Author.Needs.{needs}
+use Rattle.tape_rules.specs.declared.Tape.{Tape}
+use Rattle.tape_rules.specs.Steps.{refuses}
+use Rattle.tape_rules.proofs.Cases.{gives, command-0, command-1, command-3, command-4, command-5, command-other}
 use Rattle.tape.proofs.obey.Statement.{statement}
 use Rattle.tape.proofs.obey.Tie as tie
 

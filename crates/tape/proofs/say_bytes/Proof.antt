@@ -5,11 +5,11 @@ use mathlib.Core.List.{List, _∷_}
 use Prim.Native.Nat.{ℕ, suc, _+_, _-_, _≤_}
 use native.Mathlib.Omega.{arith}
 use lib.ListN.{length, take, drop, set, length-set}
-use Rattle.modes.proofs.Parts.{part-kept, part-length}
-use Rattle.strings.proofs.Laying.{laid-whole}
-use Rattle.tape.specs.Steps.{over}
-use Rattle.tape.proofs.Cases.{bytes-set}
 use borrow.Author.Needs.{needs}
+use Rattle.forms.specs.Lists.{over}
+use Rattle.forms.proofs.Parts.{part-kept, part-length}
+use Rattle.strings.proofs.Laying.{laid-whole}
+use Rattle.tape_rules.proofs.Cases.{bytes-set}
 use Rattle.tape.proofs.say_bytes.Statement.{statement}
 use Rattle.tape.proofs.say_bytes.Tie as tie
 

@@ -1,8 +1,8 @@
 -- One byte at the front.
 -- Assumes nothing.
 use mathlib.Core.Path.{refl}
-use Rattle.tape.proofs.Cases.{number-set}
 use borrow.Author.Needs.{needs}
+use Rattle.tape_rules.proofs.Cases.{number-set}
 use Rattle.tape.proofs.say_number.Statement.{statement}
 use Rattle.tape.proofs.say_number.Tie as tie
 

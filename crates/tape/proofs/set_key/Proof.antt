@@ -4,10 +4,10 @@ use mathlib.Core.Path.{sym, ap, _∙_}
 use Prim.Native.Nat.{_*_, _≤_}
 use native.Mathlib.Omega.{arith}
 use lib.ListN.{length, take, drop}
-use Rattle.tape.specs.declared.Tape.{Tape}
-use Rattle.tape.specs.Steps.{refuses}
-use Rattle.tape.proofs.Cases.{gives, key-taken, setKey-short, setKey-refused, setKey-done}
 use borrow.Author.Needs.{needs}
+use Rattle.tape_rules.specs.declared.Tape.{Tape}
+use Rattle.tape_rules.specs.Steps.{refuses}
+use Rattle.tape_rules.proofs.Cases.{gives, key-taken, setKey-short, setKey-refused, setKey-done}
 use Rattle.tape.proofs.set_key.Statement.{statement}
 use Rattle.tape.proofs.set_key.Tie as tie
 

@@ -1,8 +1,8 @@
 -- Each way out is one of the definition's rules.
 -- Assumes nothing.
 use mathlib.Core.Path.{refl}
-use Rattle.tape.proofs.Cases.{gives, step-room, step-ended, step-empty, step-command}
 use borrow.Author.Needs.{needs}
+use Rattle.tape_rules.proofs.Cases.{gives, step-room, step-ended, step-empty, step-command}
 use Rattle.tape.proofs.step.Statement.{statement}
 use Rattle.tape.proofs.step.Tie as tie
 

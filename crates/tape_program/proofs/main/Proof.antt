@@ -1,18 +1,18 @@
 -- The tape is what was read, and its answers fit.
 -- Assumes nothing.
-use mathlib.Core.Path.{_≡_, sym, ap}
-use Prim.Native.Nat.{ℕ, _≤_}
+use mathlib.Core.Path.{sym, ap}
+use Prim.Native.Nat.{_≤_}
 use native.Mathlib.Omega.{arith}
 use lib.ListN.{length, take}
 use lib.Seq.{length-take-le}
+use borrow.Author.Needs.{needs}
 use Rattle.tape_run.specs.declared.Answered.{Answered}
 use Rattle.tape_run.proofs.Runs.{run-fits}
-use borrow.Author.Needs.{needs}
 use Rattle.tape_program.proofs.main.Statement.{statement}
 use Rattle.tape_program.proofs.main.Tie as tie
 
-room-requires : tie.Need-room-requires
-room-requires c κs = search needs
+blank-requires : tie.Need-blank-requires
+blank-requires c κs = search needs
 
 slice-aggregate-read-tape : tie.Need-slice-aggregate-read-tape
 slice-aggregate-read-tape c = search needs
@@ -29,8 +29,8 @@ write-all-requires c κs = search needs
 returns : tie.Need-returns
 returns c = search needs
 
-room-requires-2 : tie.Need-room-requires-2
-room-requires-2 c κs = search needs
+blank-requires-2 : tie.Need-blank-requires-2
+blank-requires-2 c κs = search needs
 
 array-share-prefix-tape : tie.Need-array-share-prefix-tape
 array-share-prefix-tape c = search needs
@@ -48,7 +48,7 @@ run-requires c κs = search needs
 fit : (c : tie.After-run) → c .run .result .length ≤ length (c .run .last .1 .0)
 fit c =
     let r = c .before .before .before .before .before .before .read-tape in
-    omega (arith, ap (λ (x : Answered). x .length) (c .run .ensures .0), run-fits (take (r .result .length) (r .last .0)) (length (c .before .before .before .room2 .result)), c .run .kept .1 .0)
+    omega (arith, ap (λ (x : Answered). x .length) (c .run .ensures .0), run-fits (take (r .result .length) (r .last .0)) (length (c .before .before .before .blank2 .result)), c .run .kept .1 .0)
 
 array-share-prefix-answers : tie.Need-array-share-prefix-answers
 array-share-prefix-answers c = fit (c .before)
@@ -75,13 +75,13 @@ pub main-spec : {M : Type 1} → statement M
 main-spec =
     tie.close
     (tie.spec
-    room-requires
+    blank-requires
     slice-aggregate-read-tape
     read-tape-requires
     slice-aggregate-write-all
     write-all-requires
     returns
-    room-requires-2
+    blank-requires-2
     array-share-prefix-tape
     slice-aggregate-run
     slice-aggregate-run-2

@@ -3,9 +3,9 @@
 use mathlib.Core.Path.{refl, ap}
 use Prim.Native.Nat.{ℕ}
 use native.Mathlib.Omega.{arith}
-use Rattle.tape.proofs.Cases.{number-set}
-use Rattle.tape_run.proofs.Runs.{gives, run-room, run-long, run-whole}
 use borrow.Author.Needs.{needs}
+use Rattle.tape_rules.proofs.Cases.{number-set}
+use Rattle.tape_run.proofs.Runs.{gives, run-room, run-long, run-whole}
 use Rattle.tape_run.proofs.run.Statement.{statement}
 use Rattle.tape_run.proofs.run.Tie as tie
 

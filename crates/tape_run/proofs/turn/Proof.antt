@@ -1,17 +1,17 @@
--- The written bytes stand at the front of the room, and go to the front of the answers.
+-- The written bytes stand at the front of the answer buffer, and go to the front of the answers.
 -- Assumes nothing.
 use mathlib.Core.Path.{sym}
 use native.Mathlib.Omega.{arith}
 use lib.ListN.{length-take}
-use Rattle.tape.specs.Steps.{step}
-use Rattle.tape.proofs.Bounds.{one-if-top, step-bounded}
-use Rattle.tape_run.proofs.Turns.{In-room, in-room, copied}
 use borrow.Author.Needs.{needs}
+use Rattle.tape_rules.specs.Steps.{step}
+use Rattle.tape_rules.proofs.Bounds.{one-if-top, step-bounded}
+use Rattle.tape_run.proofs.Turns.{Answered-in, answered-in, copied}
 use Rattle.tape_run.proofs.turn.Statement.{statement}
 use Rattle.tape_run.proofs.turn.Tie as tie
 
-room-requires : tie.Need-room-requires
-room-requires c κs = search needs
+blank-answer-requires : tie.Need-blank-answer-requires
+blank-answer-requires c κs = search needs
 
 slice-aggregate-step : tie.Need-slice-aggregate-step
 slice-aggregate-step c = search needs
@@ -19,8 +19,8 @@ slice-aggregate-step c = search needs
 step-requires : tie.Need-step-requires
 step-requires c κs = search needs
 
-stepped : (c : tie.After-step) → let a = c .before .before .before .before .before .args in In-room (step (a .t) (a .rest .now) 65) (c .step .result) (c .step .last .1 .1 .0)
-stepped c = let a = c .before .before .before .before .before .args in in-room (a .t) (a .rest .now) (c .before .before .room .result) (c .before .before .room .ensures) (c .step .ensures)
+stepped : (c : tie.After-step) → let a = c .before .before .before .before .before .args in Answered-in (step (a .t) (a .rest .now) 65) (c .step .result) (c .step .last .1 .1 .0)
+stepped c = let a = c .before .before .before .before .before .args in answered-in (a .t) (a .rest .now) (c .before .before .blank-answer .result) (c .before .before .blank-answer .ensures) (c .step .ensures)
 
 array-share-prefix-answer : tie.Need-array-share-prefix-answer
 array-share-prefix-answer c = omega (arith, stepped (c .before .before) .long, length-take (c .before .before .step .result .written) (c .before .before .step .last .1 .1 .0))
@@ -48,7 +48,7 @@ pub turn-spec : {M : Type 1} → statement M
 turn-spec =
     tie.close
     (tie.spec
-    room-requires
+    blank-answer-requires
     slice-aggregate-step
     step-requires
     array-share-prefix-answer

@@ -8,10 +8,11 @@ use native.Mathlib.Omega.{arith}
 use borrow.Author.Needs.{needs}
 use borrow.Author.Tests.{not-true, not-false}
 use lib.ListN.{length, take, drop, length-drop}
-use Rattle.tape.specs.declared.Tape.{Tape}
-use Rattle.tape.specs.Steps.{step, returned, over}
-use Rattle.tape.proofs.Cases.{from-on}
-use Rattle.tape.proofs.Bounds.{one-if, one-if-top}
+use Rattle.forms.specs.Lists.{over}
+use Rattle.tape_rules.specs.declared.Tape.{Tape}
+use Rattle.tape_rules.specs.Steps.{step, returned}
+use Rattle.tape_rules.proofs.Cases.{from-on}
+use Rattle.tape_rules.proofs.Bounds.{one-if, one-if-top}
 use Rattle.tape_run.proofs.Turns.{Turning, turn-first, turn-next, turn-last, turn-length, lent, turns-less}
 use Rattle.tape_run.proofs.work.Statement.{statement}
 use Rattle.tape_run.proofs.work.Tie as tie
@@ -40,15 +41,15 @@ part-turn-end : tie.Need-part-turn-end Inv-loop μ-loop
 part-turn-end c = omega arith
 
 -- the answers are as long as they were
-room : (c : tie.In-loop Inv-loop μ-loop) → length (c .before .loop .answers) ≡ length (c .before .before .before .before .before .args .answers .now)
-room c = turn-length (c .before .loop .inv .0) (c .before .before .before .before .before .pre)
+same-size : (c : tie.In-loop Inv-loop μ-loop) → length (c .before .loop .answers) ≡ length (c .before .before .before .before .before .args .answers .now)
+same-size c = turn-length (c .before .loop .inv .0) (c .before .before .before .before .before .pre)
 
 fits : (c : tie.In-loop Inv-loop μ-loop) → c .before .loop .put ≤ length (c .before .loop .answers)
 fits c =
     let w = c .before .loop .inv .0 in
     let p = w .in-tape in
     let q = w .behind in
-    omega (arith, room c, c .before .before .before .before .before .pre, one-if-top (c .before .loop .t .ended))
+    omega (arith, same-size c, c .before .before .before .before .before .pre, one-if-top (c .before .loop .t .ended))
 
 sub-turn-2 : tie.Need-sub-turn-2 Inv-loop μ-loop
 sub-turn-2 c = fits (c .before)
@@ -70,7 +71,7 @@ turn-requires c κs =
     let q = w .behind in
     let o = ap one-if (off i) in
     let s = i .before .before .before .before .before .args .tape .now in
-    omega (arith, ap length (from-on s (l .at)) ∙ length-drop (l .at) s, ap length (from-on (l .answers) (l .put)) ∙ length-drop (l .put) (l .answers), room i, i .before .before .before .before .before .pre)
+    omega (arith, ap length (from-on s (l .at)) ∙ length-drop (l .at) s, ap length (from-on (l .answers) (l .put)) ∙ length-drop (l .put) (l .answers), same-size i, i .before .before .before .before .before .pre)
 
 -- the next turn
 stepped : (c : tie.After-turn Inv-loop μ-loop) → let l = c .before .before .before .before .loop in let tape = c .before .before .before .before .before .before .before .before .args .tape .now in

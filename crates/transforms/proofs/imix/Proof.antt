@@ -7,17 +7,17 @@ use native.Mathlib.Omega.{arith}
 use lib.Bits.{bitXor}
 use lib.ListN.{take}
 use lib.Seq.{getD-take}
-use Rattle.field.specs.Lists.{tabulate}
-use Rattle.labyrinth.specs.Blocks.{Block}
-use Rattle.labyrinth.specs.Working.{room}
-use Rattle.labyrinth.proofs.Room.{room-more, room-end}
-use Rattle.labyrinth.proofs.Ends.{mixedWord, sigma-at, imixed}
 use borrow.Author.Needs.{needs}
+use Rattle.forms.specs.Lists.{tabulate}
+use Rattle.labyrinth.specs.Blocks.{Block}
+use Rattle.labyrinth.specs.Working.{fourWords}
+use Rattle.labyrinth.proofs.FourWords.{four-more, four-end}
+use Rattle.labyrinth.proofs.Ends.{mixedWord, sigma-at, imixed}
 use Rattle.transforms.proofs.imix.Statement.{statement}
 use Rattle.transforms.proofs.imix.Tie as tie
 
 abbrev Inv-loop : tie.InvT-loop
-Inv-loop n l r d a₀ b₀ i₀ a b i = (i ≤ n) × (a ≡ room (tabulate i (mixedWord n (take n l, take n r) (take n l)))) × (b ≡ room (tabulate i (mixedWord n (take n l, take n r) (take n r))))
+Inv-loop n l r d a₀ b₀ i₀ a b i = (i ≤ n) × (a ≡ fourWords (tabulate i (mixedWord n (take n l, take n r) (take n l)))) × (b ≡ fourWords (tabulate i (mixedWord n (take n l, take n r) (take n r))))
 
 abbrev μ-loop : tie.MeasureT-loop
 μ-loop n l r d a₀ b₀ i₀ a b i = n - i
@@ -34,7 +34,7 @@ sigma-requires : tie.Need-sigma-requires Inv-loop μ-loop
 sigma-requires c κs = search needs
 
 loop-holds : tie.Need-loop-holds Inv-loop μ-loop
-unfolding room tabulate
+unfolding fourWords tabulate
 loop-holds c = (omega arith, refl, refl)
 
 add-m : tie.Need-add-m Inv-loop μ-loop
@@ -89,8 +89,8 @@ loop-again c =
     let s : Block = (take (a .n) (a .t2), take (a .n) (a .t3)) in
     let m = sigma-at s (a .n) (v .i) (omega arith) (omega arith) (c .before .before .sigma .ensures) in (
       omega arith,
-      room-more _ (v .i) (omega arith) (v .inv .1) (ap₂ bitXor (sym (getD-take (a .n) (a .t2) (v .i) 0 (omega arith))) m),
-      room-more _ (v .i) (omega arith) (v .inv .2) (ap₂ bitXor (sym (getD-take (a .n) (a .t3) (v .i) 0 (omega arith))) m),
+      four-more _ (v .i) (omega arith) (v .inv .1) (ap₂ bitXor (sym (getD-take (a .n) (a .t2) (v .i) 0 (omega arith))) m),
+      four-more _ (v .i) (omega arith) (v .inv .2) (ap₂ bitXor (sym (getD-take (a .n) (a .t3) (v .i) 0 (omega arith))) m),
     )
 
 returns : tie.Need-returns Inv-loop μ-loop
@@ -99,7 +99,7 @@ returns c =
     let a = c .before .before .before .args in
     let s : Block = (take (a .n) (a .t2), take (a .n) (a .t3)) in
     let e : v .i ≡ a .n = omega arith in
-    imixed (a .n) s (room-end _ e (v .inv .1)) (room-end _ e (v .inv .2))
+    imixed (a .n) s (four-end _ e (v .inv .1)) (four-end _ e (v .inv .2))
 
 pub imix-spec : {M : Type 1} → statement M
 imix-spec =

@@ -5,26 +5,26 @@ use Prim.Native.Nat.{ℕ, _≤_, _<_, _+_, _-_, _*_}
 use native.Mathlib.Nat.{mod-eq-of-lt}
 use native.Mathlib.Omega.{arith}
 use lib.ListN.{getD}
-use Rattle.field.specs.Lists.{tabulate}
-use Rattle.field.specs.Words.{rotl, eachByte}
+use borrow.Author.Needs.{needs}
+use Rattle.forms.specs.Lists.{tabulate}
+use Rattle.forms.specs.Words.{rotl, eachByte}
+use Rattle.buffers.proofs.Words.{word-at}
 use Rattle.field.specs.Substitution.{sub}
 use Rattle.labyrinth.specs.Blocks.{plus}
-use Rattle.labyrinth.specs.Working.{room}
-use Rattle.labyrinth.proofs.Room.{room-more, room-end}
+use Rattle.labyrinth.specs.Working.{fourWords}
+use Rattle.labyrinth.proofs.FourWords.{four-more, four-end}
 use Rattle.labyrinth.proofs.Ends.{inWord, in-half}
-use Rattle.buffers.proofs.Words.{word-at}
-use borrow.Author.Needs.{needs}
 use Rattle.transforms.proofs.key_in.Statement.{statement}
 use Rattle.transforms.proofs.key_in.Tie as tie
 
 abbrev Inv-loop : tie.InvT-loop
-Inv-loop s n ks k turn src at x₀ j₀ x j = (j ≤ n) × (x ≡ room (tabulate j (inWord (sub s) ks k turn src at)))
+Inv-loop s n ks k turn src at x₀ j₀ x j = (j ≤ n) × (x ≡ fourWords (tabulate j (inWord (sub s) ks k turn src at)))
 
 abbrev μ-loop : tie.MeasureT-loop
 μ-loop s n ks k turn src at x₀ j₀ x j = n - j
 
 loop-holds : tie.Need-loop-holds Inv-loop μ-loop
-unfolding room tabulate
+unfolding fourWords tabulate
 loop-holds c = (omega arith, refl)
 
 mul-load-word : tie.Need-mul-load-word Inv-loop μ-loop
@@ -74,7 +74,7 @@ loop-again c =
     let a = loaded .before .before .before .before .args in
     let h : a .turn < 64 = omega arith in (
       omega arith,
-      room-more _ (v .j) (omega arith) (v .inv .1)
+      four-more _ (v .j) (omega arith) (v .inv .1)
           (c .rotate-left .ensures
           ∙ ap₂ rotl
           (c .before .substitute-bytes .ensures
@@ -88,7 +88,7 @@ returns c =
     let v = c .before .loop in
     let a = c .before .before .before .args in
     let e : v .j ≡ a .n = omega arith in
-    room-end _ e (v .inv .1) ∙ ap room (in-half (sub (a .s .now)) (a .n) (a .ks .now) (a .k) (a .turn) (a .src .now) (a .at))
+    four-end _ e (v .inv .1) ∙ ap fourWords (in-half (sub (a .s .now)) (a .n) (a .ks .now) (a .k) (a .turn) (a .src .now) (a .at))
 
 pub key-in-spec : {M : Type 1} → statement M
 key-in-spec =

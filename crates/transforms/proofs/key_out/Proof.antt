@@ -5,14 +5,14 @@ use Prim.Native.Nat.{ℕ, _≤_, _<_, _+_, _-_, _*_}
 use native.Mathlib.Nat.{mod-eq-of-lt}
 use native.Mathlib.Omega.{arith}
 use lib.ListN.{getD, length}
-use Rattle.field.specs.Lists.{tabulate}
-use Rattle.field.specs.Words.{rotl, eachByte}
-use Rattle.field.specs.Substitution.{sub}
-use Rattle.labyrinth.specs.Blocks.{minus, bytes}
-use Rattle.labyrinth.proofs.Buffers.{put, put-none, put-bytes}
-use Rattle.buffers.proofs.Words.{with-word}
-use Rattle.labyrinth.proofs.Ends.{outHalf, getD-outHalf}
 use borrow.Author.Needs.{needs}
+use Rattle.forms.specs.Lists.{tabulate}
+use Rattle.forms.specs.Words.{rotl, eachByte, bytes}
+use Rattle.forms.proofs.Buffers.{put, put-none, put-bytes}
+use Rattle.buffers.proofs.Words.{with-word}
+use Rattle.field.specs.Substitution.{sub}
+use Rattle.labyrinth.specs.Blocks.{minus}
+use Rattle.labyrinth.proofs.Ends.{outHalf, getD-outHalf}
 use Rattle.transforms.proofs.key_out.Statement.{statement}
 use Rattle.transforms.proofs.key_out.Tie as tie
 

@@ -2,9 +2,10 @@
 -- Assumes nothing.
 use mathlib.Core.Path.{_∙_}
 use lib.ListN.{length}
-use Rattle.labyrinth.specs.Working.{fits}
-use Rattle.labyrinth.proofs.Ends.{fits-is, chosen, spared}
 use borrow.Author.Needs.{needs}
+use Rattle.forms.proofs.Booleans.{when-chosen, when-spared}
+use Rattle.labyrinth.specs.Working.{fits}
+use Rattle.labyrinth.proofs.Ends.{fits-is}
 use Rattle.transforms.proofs.leave.Statement.{statement}
 use Rattle.transforms.proofs.leave.Tie as tie
 
@@ -19,11 +20,11 @@ same-length c = search needs
 
 returns : tie.Need-returns
 unfolding fits
-returns c = let i = c .before .before .before .before in c .before .before .leave-any .ensures ∙ chosen _ _ (i .before .fit .ensures) (i .if1 .taken)
+returns c = let i = c .before .before .before .before in c .before .before .leave-any .ensures ∙ when-chosen _ _ (i .before .fit .ensures) (i .if1 .taken)
 
 returns-2 : tie.Need-returns-2
 unfolding fits
-returns-2 c = spared _ _ (c .before .fit .ensures) (c .if1 .left)
+returns-2 c = when-spared _ _ (c .before .fit .ensures) (c .if1 .left)
 
 pub leave-spec : {M : Type 1} → statement M
 leave-spec = tie.close (tie.spec fit-requires leave-any-requires same-length returns returns-2)

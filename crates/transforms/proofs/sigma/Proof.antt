@@ -6,22 +6,22 @@ use native.Mathlib.Omega.{arith}
 use lib.Bits.{bitXor}
 use lib.ListN.{getD, take}
 use lib.Seq.{getD-take}
-use Rattle.field.specs.Lists.{tabulate}
-use Rattle.labyrinth.specs.Working.{room}
-use Rattle.labyrinth.proofs.Room.{room-more, room-end}
-use Rattle.labyrinth.proofs.Ends.{sigma-first}
 use borrow.Author.Needs.{needs}
+use Rattle.forms.specs.Lists.{tabulate}
+use Rattle.labyrinth.specs.Working.{fourWords}
+use Rattle.labyrinth.proofs.FourWords.{four-more, four-end}
+use Rattle.labyrinth.proofs.Ends.{sigma-first}
 use Rattle.transforms.proofs.sigma.Statement.{statement}
 use Rattle.transforms.proofs.sigma.Tie as tie
 
 abbrev Inv-loop : tie.InvT-loop
-Inv-loop n l r d₀ j₀ d j = (j ≤ n) × (d ≡ room (tabulate j (λ k. bitXor (getD (take n l) k 0) (getD (take n r) k 0))))
+Inv-loop n l r d₀ j₀ d j = (j ≤ n) × (d ≡ fourWords (tabulate j (λ k. bitXor (getD (take n l) k 0) (getD (take n r) k 0))))
 
 abbrev μ-loop : tie.MeasureT-loop
 μ-loop n l r d₀ j₀ d j = n - j
 
 loop-holds : tie.Need-loop-holds Inv-loop μ-loop
-unfolding room tabulate
+unfolding fourWords tabulate
 loop-holds c = (omega arith, refl)
 
 mul-d : tie.Need-mul-d Inv-loop μ-loop
@@ -52,7 +52,7 @@ loop-again : tie.Need-loop-again Inv-loop μ-loop
 loop-again c =
     let v = c .before .loop in
     let a = c .before .before .args in
-    (omega arith, room-more _ (v .j) (omega arith) (v .inv .1) (ap₂ bitXor (sym (getD-take (a .n) (a .t2) (v .j) 0 (omega arith))) (sym (getD-take (a .n) (a .t3) (v .j) 0 (omega arith)))))
+    (omega arith, four-more _ (v .j) (omega arith) (v .inv .1) (ap₂ bitXor (sym (getD-take (a .n) (a .t2) (v .j) 0 (omega arith))) (sym (getD-take (a .n) (a .t3) (v .j) 0 (omega arith)))))
 
 array-read-first : tie.Need-array-read-first Inv-loop μ-loop
 array-read-first c = search needs
@@ -68,7 +68,7 @@ returns c =
     let v = c .before .before .loop in
     let a = c .before .before .before .args in
     let e : v .j ≡ a .n = omega arith in
-    sigma-first (take (a .n) (a .t2), take (a .n) (a .t3)) (a .n) (omega arith) (room-end _ e (v .inv .1)) (c .rotate-left .ensures)
+    sigma-first (take (a .n) (a .t2), take (a .n) (a .t3)) (a .n) (omega arith) (four-end _ e (v .inv .1)) (c .rotate-left .ensures)
 
 pub sigma-spec : {M : Type 1} → statement M
 sigma-spec =

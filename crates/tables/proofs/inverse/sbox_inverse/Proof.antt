@@ -1,7 +1,7 @@
 -- One computed test over the table: each entry is the place where its index stands in Table 1.
 -- Assumes nothing.
 use mathlib.Core.Path.{refl}
-use Rattle.field.specs.Lists.{tabulate}
+use Rattle.forms.specs.Lists.{tabulate}
 use Rattle.field.specs.Substitution.{subInv, invert}
 use Rattle.field.specs.Published.{table1}
 use Rattle.tables.proofs.inverse.sbox_inverse.Statement.{statement}

@@ -1,8 +1,8 @@
 -- One computed test over the table: each word is S of its index, multiplied by the row.
 -- Assumes nothing.
 use mathlib.Core.Path.{refl}
-use Rattle.field.specs.Lists.{tabulate, xorSum}
-use Rattle.field.specs.Words.{join}
+use Rattle.forms.specs.Lists.{tabulate, xorSum}
+use Rattle.forms.specs.Words.{join}
 use Rattle.field.specs.Field.{mul, shift, timesX}
 use Rattle.field.specs.Substitution.{sub}
 use Rattle.field.specs.Mixing.{LCM}

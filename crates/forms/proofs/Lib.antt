@@ -1,0 +1,12 @@
+pub mod Booleans
+pub mod Tests
+pub mod Refusals
+pub mod Twice
+pub mod Xor
+pub mod Sums
+pub mod Lists
+pub mod Parts
+pub mod Words
+pub mod Bytes
+pub mod Buffers
+pub mod Strings

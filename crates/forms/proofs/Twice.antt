@@ -1,0 +1,43 @@
+-- Two calls in a row, the second over what the first wrote: a first that is refused stops, and after one that passes the second undoes it.
+-- Assumes nothing.
+use mathlib.Core.Path.{_≡_, refl, sym, ap, _∙_}
+use mathlib.Core.List.{List}
+use Prim.Native.Nat.{ℕ, zero, suc}
+use native.Mathlib.Omega.{arith}
+use borrow.Author.Tests.{eq-eqb, ne-eqb}
+use lib.ListN.{length}
+use Rattle.forms.specs.Refusals.{outcome, firstOf}
+use Rattle.forms.proofs.Refusals.{refused-keeps}
+
+pub first-refused : (a b : ℕ) → (a ≡ 0 → ⊥) → a ≡ firstOf a b
+unfolding firstOf
+first-refused a b h = rw (ne-eqb a 0 h)
+
+pub first-passed : (a b : ℕ) → a ≡ 0 → b ≡ firstOf a b
+unfolding firstOf
+first-passed a b h = rw (eq-eqb a 0 h)
+
+pub first-zero : (a b : ℕ) → firstOf a b ≡ 0 → (a ≡ 0) × (b ≡ 0)
+first-zero zero b e = (refl, first-passed 0 b refl ∙ e)
+first-zero (suc a) b e = let h : suc a ≡ 0 → ⊥ = λ z. omega arith in absurd (h (first-refused (suc a) b h ∙ e))
+
+-- the first answers first and maps by run, from src to mid; the second answers second, by the length of mid, and maps by back, from mid to dst
+module _ (first : ℕ) (second : ℕ → ℕ) (run back : List ℕ → List ℕ) (src mid dst : List ℕ) where
+  -- what both come to, where the last call that was made answers r and the buffers then hold m and d
+  abbrev pub Both : ℕ → List ℕ → List ℕ → Type 0
+  Both r m d = (r ≡ firstOf first (second (length mid))) × ((m ≡ outcome first (run src) mid) × (d ≡ outcome r src dst))
+
+  module _ {r : ℕ} {m : List ℕ} (e : r ≡ first) (w : m ≡ outcome r (run src) mid) where
+    written : m ≡ outcome first (run src) mid
+    written = w ∙ ap (λ (k : ℕ). outcome k (run src) mid) e
+
+    -- the first is refused
+    pub stopped : (r ≡ 0 → ⊥) → Both r m dst
+    stopped h = (e ∙ first-refused first (second (length mid)) (λ z. h (e ∙ z)), (written, refused-keeps r src dst h))
+
+    -- it passes
+    pub went-on : r ≡ 0 → length m ≡ length mid → back (run src) ≡ src → {r₂ : ℕ} {d : List ℕ} → r₂ ≡ second (length m) → d ≡ outcome r₂ (back m) dst → Both r₂ m d
+    went-on z l u {r₂} e₂ w₂ = (
+      e₂ ∙ ap second l ∙ first-passed first (second (length mid)) (sym e ∙ z),
+      (written, w₂ ∙ ap (λ (x : List ℕ). outcome r₂ x dst) (ap back (w ∙ ap (λ (k : ℕ). outcome k (run src) mid) z) ∙ u)),
+    )

@@ -1,0 +1,4 @@
+pub mod Lists
+pub mod Words
+pub mod Strings
+pub mod Refusals

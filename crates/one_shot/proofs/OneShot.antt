@@ -1,0 +1,95 @@
+-- A key expanded and used at once, whatever the operation.
+-- Assumes nothing.
+use mathlib.Core.Path.{_≡_, refl, sym, ap, _∙_}
+use mathlib.Core.Bool.{Bool}
+use mathlib.Core.List.{List}
+use Prim.Native.Nat.{ℕ, zero, suc}
+use native.Mathlib.Omega.{arith}
+use lib.ListN.{length}
+use Rattle.forms.specs.Refusals.{outcome}
+use Rattle.forms.proofs.Refusals.{refused-keeps}
+use Rattle.forms.proofs.Twice.{first-refused, first-passed}
+use Rattle.labyrinth.specs.declared.Expanded.{Expanded}
+use Rattle.labyrinth.specs.Cipher.{article}
+use Rattle.labyrinth.specs.Keys.{E}
+use Rattle.labyrinth.specs.Refusals.{expandRefusal, expansion}
+use Rattle.modes.specs.Cmac.{valid}
+use Rattle.modes.specs.Refusals.{cmacRefusal}
+use Rattle.cmac.specs.declared.Verified.{Verified}
+use Rattle.cmac.specs.Verification.{verification}
+use Rattle.cmac.proofs.Tags.{verification-number}
+use Rattle.one_shot.specs.OneShot.{keyOf, numberOf, yesByte}
+
+-- an expansion's number, and of one that passed the size
+number-of : (SM : ℕ → ℕ) (n l : ℕ) (key : List ℕ) (r : ℕ) → expansion SM n l key r .number ≡ r
+unfolding expansion
+number-of SM n l key zero = refl
+number-of SM n l key (suc r) = refl
+
+size-of : (SM : ℕ → ℕ) (n l : ℕ) (key : List ℕ) (r : ℕ) → r ≡ 0 → expansion SM n l key r .key .n ≡ n
+unfolding expansion
+size-of SM n l key zero e = refl
+size-of SM n l key (suc r) e = let f : ⊥ = omega arith in absurd f
+
+-- what an expansion answered
+module _ (n l : ℕ) (key : List ℕ) {x : Expanded} (e : x ≡ expansion (article .SM) n l key (expandRefusal n l (length key))) where
+  number-is : x .number ≡ expandRefusal n l (length key)
+  number-is = ap (λ (y : Expanded). y .number) e ∙ number-of (article .SM) n l key (expandRefusal n l (length key))
+
+  refused-number : (x .number ≡ 0 → ⊥) → (operation : ℕ) → x .number ≡ numberOf n l key operation
+  refused-number h operation = number-is ∙ first-refused _ operation (λ z. h (number-is ∙ z))
+
+  passed-number : x .number ≡ 0 → (operation : ℕ) → operation ≡ numberOf n l key operation
+  passed-number z operation = first-passed _ operation (sym number-is ∙ z)
+
+  -- whatever is made of the size and the words of a key
+  passed-key : {A : Type 0} (f : ℕ → List ℕ → A) → x .number ≡ 0 → f (x .key .n) (x .key .words) ≡ f n (keyOf n l key .words)
+  unfolding keyOf
+  passed-key f z =
+      ap (λ (m : ℕ). f m (x .key .words)) (ap (λ (y : Expanded). y .key .n) e ∙ size-of (article .SM) n l key _ (sym number-is ∙ z))
+      ∙ ap (λ (y : Expanded). f n (y .key .words)) e
+
+-- an operation on a buffer
+module _ (n l : ℕ) (key : List ℕ) (operation : ℕ → ℕ) (result : ℕ → List ℕ → List ℕ) (before : List ℕ) where
+  -- what is promised
+  abbrev pub Done : ℕ → List ℕ → Type 0
+  Done number after = (number ≡ numberOf n l key (operation n)) × (after ≡ outcome number (result n (keyOf n l key .words)) before)
+
+  module _ {x : Expanded} (e : x ≡ expansion (article .SM) n l key (expandRefusal n l (length key))) where
+    pub key-refused : (x .number ≡ 0 → ⊥) → Done (x .number) before
+    key-refused h = (refused-number n l key e h (operation n), refused-keeps (x .number) _ before h)
+
+    pub key-passed : x .number ≡ 0 → {number : ℕ} {after : List ℕ} → (number ≡ operation (x .key .n)) × (after ≡ outcome number (result (x .key .n) (x .key .words)) before) → Done number after
+    key-passed z {number} p = (
+      p .0 ∙ passed-key n l key e (λ m ws. operation m) z ∙ passed-number n l key e z (operation n),
+      p .1 ∙ passed-key n l key e (λ m ws. outcome number (result m ws) before) z,
+    )
+
+-- a tag verified
+module _ (n l : ℕ) (key message given : List ℕ) where
+  -- what is promised
+  abbrev pub Told : ℕ → ℕ → Type 0
+  Told number told = (number ≡ numberOf n l key (cmacRefusal n (length given))) × (told ≡ yesByte number (valid (E article n (keyOf n l key .words)) message given))
+
+  -- a yes beside its number
+  told-yes : (e : List ℕ → List ℕ) (r : ℕ) → yesByte 0 (verification e message given r .yes) ≡ yesByte (verification e message given r .number) (valid e message given)
+  unfolding verification
+  told-yes e zero = refl
+  told-yes e (suc r) = refl
+
+  module _ {x : Expanded} (e : x ≡ expansion (article .SM) n l key (expandRefusal n l (length key))) where
+    pub verify-refused : (x .number ≡ 0 → ⊥) → Told (x .number) 0
+    verify-refused h = (refused-number n l key e h (cmacRefusal n (length given)), none (x .number) (valid (E article n (keyOf n l key .words)) message given) h)
+      where
+        none : (r : ℕ) (b : Bool) → (r ≡ 0 → ⊥) → 0 ≡ yesByte r b
+        none zero b h = absurd (h refl)
+        none (suc r) b h = refl
+
+    pub verify-passed : x .number ≡ 0 → {v : Verified} {told : ℕ}
+        → v ≡ verification (E article (x .key .n) (x .key .words)) message given (cmacRefusal (x .key .n) (length given)) → told ≡ yesByte 0 (v .yes) → Told (v .number) told
+    verify-passed z {v} {told} p q =
+        let w : v ≡ verification (E article n (keyOf n l key .words)) message given (cmacRefusal n (length given)) =
+        p ∙ passed-key n l key e (λ m ws. verification (E article m ws) message given (cmacRefusal m (length given))) z in (
+          ap (λ (y : Verified). y .number) w ∙ verification-number _ message given _ ∙ passed-number n l key e z (cmacRefusal n (length given)),
+          q ∙ ap (λ (y : Verified). yesByte 0 (y .yes)) w ∙ told-yes _ _ ∙ ap (λ (y : Verified). yesByte (y .number) (valid (E article n (keyOf n l key .words)) message given)) (sym w),
+        )

@@ -1,0 +1,121 @@
+// The block map by the merged table: what it needs is prepared once for a working key, and lent to every block.
+//
+// A run prepares `table`, `substitution`, `inverse` and `schedule`, the table as `eight_tables` where that `pays`, and calls `map_block`
+// for each block. That they give E and U is a law of labyrinth's, `by-one` and `by-eight`.
+use labyrinth::WorkingKey;
+ghost use mathlib.Core.Path.{_≡_};
+ghost use lib.ListN.{length};
+ghost use Rattle.field.specs.Substitution.{invert};
+ghost use Rattle.field.specs.Merged.{merged};
+ghost use Rattle.field.specs.Published as published;
+ghost use Rattle.forms.specs.Refusals.{outcome};
+ghost use Rattle.labyrinth.specs.Cipher.{article};
+ghost use Rattle.labyrinth.specs.Keys.{E, U};
+ghost use Rattle.labyrinth.specs.Refusals.{blockRefusal};
+ghost use Rattle.labyrinth.specs.Working.{eightTables, lendable, lentRefusal, way};
+ghost use Rattle.labyrinth.specs.Working.{schedule as laidOut, pays as worthEight};
+ghost use Rattle.labyrinth.specs.Lent.{lent};
+
+// The merged table.
+pub fn table() -> [u64; 256]
+    ensures { λ r. ⌜ r ≡ merged published.row published.table1 ⌝ }
+{
+    tables::merged_table()
+}
+
+// A merged table as eight tables.
+pub fn eight_tables(t: &[u64; 256]) -> [u64; 2048]
+    ensures { λ r. ⌜ r ≡ eightTables (now (t .entry)) ⌝ }
+{
+    eight_tables::make(t)
+}
+
+// Whether the eight tables pay for a run of so many bytes.
+pub fn pays(n: usize, count: usize) -> bool
+    ensures { λ r. ⌜ r ≡ worthEight n count ⌝ }
+{
+    eight_tables::pays(n, count)
+}
+
+// The substitution.
+pub fn substitution() -> [u8; 256]
+    ensures { λ r. ⌜ r ≡ published.table1 ⌝ }
+{
+    tables::sbox()
+}
+
+// Its inverse.
+pub fn inverse() -> [u8; 256]
+    ensures { λ r. ⌜ r ≡ invert published.table1 ⌝ }
+{
+    tables::sbox_inverse()
+}
+
+// The schedule of a working key, for enciphering or, with back, deciphering.
+pub fn schedule(k: WorkingKey, back: bool) -> [u64; 80]
+    ensures { λ r. ⌜ r ≡ laidOut (k .n) (k .words) back ⌝ }
+{
+    schedule::schedule(k, back)
+}
+
+// Whether a table of so many words is in one of the two forms.
+fn is_lendable(words: usize) -> bool
+    ensures { λ r. ⌜ r ≡ lendable words ⌝ }
+{
+    words == 256 || words == 2048
+}
+
+// Maps a block by what is lent: a merged table t as it is, 256 words, or as eight tables, 2048 words, a substitution s, its inverse u and
+// a schedule ks.
+pub fn map_block(
+    t: &[u64],
+    s: &[u8; 256],
+    u: &[u8; 256],
+    n: usize,
+    ks: &[u64; 80],
+    src: &[u8],
+    dst: &mut [u8],
+) -> u8
+    ensures number { λ r. ⌜ r ≡ lentRefusal n (length (now (src .entry))) (length (now (dst .entry))) (length (now (t .entry))) ⌝ }
+    ensures block { λ r. ⌜ now (dst .exit) ≡ outcome r (lent n (now (t .entry)) (now (s .entry)) (now (u .entry)) (now (ks .entry)) (now (src .entry))) (now (dst .entry)) ⌝ }
+{
+    let number = labyrinth::block_refusal(n, src.len(), dst.len());
+    if number != 0 {
+        return number;
+    }
+    if !is_lendable(t.len()) {
+        return 5;
+    }
+    let h = table_rounds::rounds(t, n, ks, transforms::enter(s, n, ks, src));
+    transforms::leave(u, n, ks, labyrinth::exchange(h), dst);
+    0
+}
+
+// One way or the other, with what is prepared for this block alone.
+fn by_table(k: WorkingKey, back: bool, src: &[u8], dst: &mut [u8]) -> u8
+    ensures number { λ r. ⌜ r ≡ blockRefusal (k .n) (length (now (src .entry))) (length (now (dst .entry))) ⌝ }
+    ensures block { λ r. ⌜ now (dst .exit) ≡ outcome r (way article back (k .n) (k .words) (now (src .entry))) (now (dst .entry)) ⌝ }
+{
+    let n = k.n;
+    let t = table();
+    let s = substitution();
+    let u = inverse();
+    let ks = schedule(k, back);
+    map_block(&t, &s, &u, n, &ks, src, dst)
+}
+
+// Enciphers a block by the merged table.
+pub fn encipher_by_table(k: WorkingKey, src: &[u8], dst: &mut [u8]) -> u8
+    ensures number { λ r. ⌜ r ≡ blockRefusal (k .n) (length (now (src .entry))) (length (now (dst .entry))) ⌝ }
+    ensures block { λ r. ⌜ now (dst .exit) ≡ outcome r (E article (k .n) (k .words) (now (src .entry))) (now (dst .entry)) ⌝ }
+{
+    by_table(k, false, src, dst)
+}
+
+// Deciphers a block by the merged table.
+pub fn decipher_by_table(k: WorkingKey, src: &[u8], dst: &mut [u8]) -> u8
+    ensures number { λ r. ⌜ r ≡ blockRefusal (k .n) (length (now (src .entry))) (length (now (dst .entry))) ⌝ }
+    ensures block { λ r. ⌜ now (dst .exit) ≡ outcome r (U article (k .n) (k .words) (now (src .entry))) (now (dst .entry)) ⌝ }
+{
+    by_table(k, true, src, dst)
+}

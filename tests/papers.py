@@ -1,0 +1,169 @@
+"""Documents 01 and 02 for the tests, once: which number an operation gives, and the tape. Lengths are in bytes; a number is 0 or the first
+that applies. Blocks and mixed words on a tape are the archivists'. tests/opener.py and tests/verifier.py, the tools for people, the tests in C
+and those in Rust have rules of their own, to differ if these are wrong."""
+import collections
+import functools
+import operator
+import os
+import sys
+
+sys.dont_write_bytecode = True
+sys.path.insert(0, os.path.join(os.path.dirname(os.path.abspath(__file__)), "archivists"))
+import labyrinth
+
+NS, LS = (1, 2, 4), (2, 3, 4)
+SIZES = [(n, l) for n in NS for l in LS]
+TAG_LENGTHS = range(8, 17)  # lengths of tags
+PUBLISHED = bytes.fromhex("0101030F0A1F0F0C")  # the row
+MIXED = {0x1: 0x0C0F1F0A0F030101, 0x100: 0x0F1F0A0F0301010C, 0x0101010101010101: 0x1A1A1A1A1A1A1A1A}  # words, and what mixing gives
+
+# ---- numbers: document 01, 'Operations and what they turn away'. n is the working key's, but for expansion
+
+
+def expansion(n, l, key):
+    return 1 if n not in NS else 2 if l not in LS else 3 if key != 8 * n * l else 0
+
+
+def block(n, source, destination):
+    return 1 if n not in NS else 4 if source != 16 * n else 5 if destination != 16 * n else 0
+
+
+def cbc(n, start, source, destination):
+    return 1 if n not in NS else 6 if start != 16 * n else 4 if source % (16 * n) else 5 if destination != source else 0
+
+
+def ctr(n, start, source, destination):
+    return 1 if n not in NS else 6 if start != 16 * n else 5 if destination != source else 0
+
+
+# ---- document 02
+
+
+def tag(n, length):
+    """Job 1, of a tag that is made or verified."""
+    return 1 if n not in NS else 12 if n != 1 else 11 if length not in TAG_LENGTHS else 0
+
+
+def mixing(row):
+    """Job 4, of mixing by a row; and Job 5, of its inverse."""
+    return 13 if functools.reduce(operator.xor, row, 0) == 0 else 0
+
+
+def table(row, words):
+    """Job 4, of a row's merged table in a buffer of so many words."""
+    return mixing(row) or (5 if words != 256 else 0)
+
+
+# ---- what the C interface adds: the key itself is handed in, so that expansion's numbers come first; and a row is a buffer
+
+
+def through_c(op, n, l, key, start, source, destination):
+    """A tag, made or to be verified, is the destination, and n is 1 there."""
+    own = {
+        "encipher": block(n, source, destination),
+        "decipher": block(n, source, destination),
+        "cbc_seal": cbc(n, start, source, destination),
+        "cbc_open": cbc(n, start, source, destination),
+        "ctr": ctr(n, start, source, destination),
+        "cmac": tag(n, destination),
+        "cmac_verify": tag(n, destination),
+    }
+    return expansion(n, l, key) or own[op]
+
+
+def mixing_through_c(row):
+    """The 4 is the header's."""
+    return 4 if len(row) != 8 else mixing(row)
+
+
+# ---- the tape: document 01, 'The command tape', with the end rule of document 02's Job 2
+
+LONGEST = 65536  # of a tape
+ROOM = 65  # of an answer buffer
+WIDTH = {0x00: 1, 0x01: 131, 0x03: 65, 0x04: 65, 0x05: 9}  # of a command with its operands
+ANSWERED = (0, 1, 2, 4, 7, 8, 9, 10)  # the numbers that the program can write
+
+
+def command(byte, *operands):
+    """A command whose operands are filled with zeros."""
+    return (bytes([byte]) + b"".join(operands)).ljust(WIDTH[byte], b"\x00")
+
+
+def set_key(n, l, key=b""):
+    return command(0x01, bytes([n, l]), key)
+
+
+END = command(0x00)
+MIX, MIX_ANSWER = command(0x05, b"\x01"), b"\x00" + PUBLISHED
+EXAMPLE = MIX + command(0x03) + set_key(3, 2) + b"\x7f"
+EXAMPLE_ANSWERS = bytes.fromhex("00 01 01 03 0F 0A 1F 0F 0C 09 01 07")
+
+# the marks are 0 or 1; the key is that of 8nl bytes which made the working key, if one did
+State = collections.namedtuple("State", "n keyed ended key", defaults=[b""])
+FRESH = State(0, 0, 0)
+
+
+@functools.lru_cache(maxsize=None)
+def cipher(n, key):
+    return labyrinth.Labyrinth(n, key)
+
+
+@functools.lru_cache(maxsize=None)
+def mapped(byte, n, key, data):
+    """What 03 and 04 do to a block."""
+    return (cipher(n, key).encrypt_block if byte == 0x03 else cipher(n, key).decrypt_block)(data)
+
+
+@functools.lru_cache(maxsize=None)
+def mixed(data):
+    return labyrinth.cmbn_poly(int.from_bytes(data, "little")).to_bytes(8, "little")
+
+
+def unused(data):
+    return 10 if any(data) else 0
+
+
+def step(state, rest, room=ROOM):
+    """The number, how many bytes are taken, the answer, the next state."""
+    ended = state._replace(ended=1)
+    if room != ROOM:
+        return 5, 0, b"", state
+    if state.ended:
+        return 0, 0, b"", state
+    if not rest:
+        return 8, 0, b"\x08", ended
+    byte = rest[0]
+    if byte == 0x00:
+        return 0, 1, b"", ended
+    if byte not in WIDTH:
+        return 7, 1, b"\x07", ended
+    if len(rest) < WIDTH[byte]:
+        return 8, len(rest), b"\x08", ended
+    operands, number, data = rest[1 : WIDTH[byte]], 0, b""
+    if byte == 0x01:
+        n, l, used = operands[0], operands[1], 8 * operands[0] * operands[1]
+        number = expansion(n, l, used) or unused(operands[2 + used :])
+        if number == 0:
+            state = State(n, 1, 0, operands[2 : 2 + used])
+    elif byte == 0x05:
+        data = mixed(operands)
+    else:
+        used = 16 * state.n
+        number = 9 if not state.keyed else block(state.n, used, used) or unused(operands[used:])
+        if number == 0:
+            data = mapped(byte, state.n, state.key, operands[:used])
+    return number, WIDTH[byte], bytes([number]) + data, state
+
+
+def steps(tape):
+    """The program's steps on a tape, to the one that ends it: number, bytes taken, answer."""
+    state = FRESH
+    while not state.ended:
+        number, taken, answer, state = step(state, tape)
+        yield number, taken, answer
+        tape = tape[taken:]
+
+
+def answers(tape):
+    """What the program writes, one answer after another."""
+    return [b"\x04"] if len(tape) > LONGEST else [answer for _, _, answer in steps(tape) if answer]
