@@ -50,8 +50,8 @@ fn space() -> [u8; 256]
 }
 
 pub fn print_step(t: Tape, case: &[u8]) -> Tape {
-    let mut room = space();
-    let answer = reading::front(&mut room, reading::byte_at(case, 3) as usize);
+    let mut buffer = space();
+    let answer = reading::front(&mut buffer, reading::byte_at(case, 3) as usize);
     let s = tape::step(begin(t, case), reading::part(case, 4, case.len()), answer);
     let next = s.next;
     printing::number(b"step ", s.number as u64);
