@@ -31,8 +31,8 @@ static const char *const KIND[KINDS] = {"enciphering", "deciphering", "CBC seali
 static const size_t LENGTH[KINDS] = {1 << 16, 1 << 16, LONG, LONG, LONG};
 static const int PASSES[KINDS] = {300, 300, 30, 30, 30};
 
-/* who is timed: ours, C in four shapes, and OpenSSL's two */
-enum { US, C_FIRST, C_LAST = C_FIRST + LAB_EIGHT_PAIRS, OTHER_FIRST, OTHER_LAST = OTHER_FIRST + ARIA, ALL };
+/* who is timed: ours, C in five shapes, and OpenSSL's two */
+enum { US, C_FIRST, C_LAST = C_FIRST + LAB_EIGHT_MOST, OTHER_FIRST, OTHER_LAST = OTHER_FIRST + ARIA, ALL };
 
 static uint8_t input[LONGEST], by_us[LONGEST], by_c[LONG], start[64];
 static uint64_t words[32];
@@ -87,7 +87,7 @@ static double time_other(enum other cipher, int kind, size_t length) {
     return now() - began;
 }
 
-/* Single blocks are not OpenSSL's; only CBC opening and CTR can go by pairs. */
+/* Single blocks are not OpenSSL's; only CBC opening and CTR can go side by side. */
 static int takes_part(int who, int kind) {
     if (who >= OTHER_FIRST) return others_version() && kind >= LAB_CBC_SEAL;
     return who < C_FIRST + LAB_ONE_PAIRS || kind >= LAB_CBC_OPEN;
@@ -99,10 +99,10 @@ static double time_of(int who, int kind, int n, size_t length) {
     return time_other((enum other)(who - OTHER_FIRST), kind, length);
 }
 
-/* C in each shape against ours, an even and an odd number of blocks; 0 if they differ */
+/* C in each shape against ours, five numbers of blocks; 0 if they differ */
 static int same_bytes(int kind, int n) {
     for (int who = C_FIRST; who <= C_LAST; who++)
-        for (size_t length = LENGTH[kind]; takes_part(who, kind) && length >= LENGTH[kind] - 16 * (size_t)n; length -= 16 * (size_t)n) {
+        for (size_t length = LENGTH[kind]; takes_part(who, kind) && length >= LENGTH[kind] - 64 * (size_t)n; length -= 16 * (size_t)n) {
             memset(by_c, 0x55, LENGTH[kind]);
             memset(by_us, 0xAA, LENGTH[kind]);
             time_of(who, kind, n, length);
@@ -125,26 +125,30 @@ static int others_work(enum other cipher) {
     return 1;
 }
 
-static double long_run[KINDS][3];
+static void ratio_line(int kind, int size, size_t length, int passes) {
+    double best[ALL] = {0}, blocks = (double)length / (16 << size);
+    for (int pass = 0; pass < passes; pass++)
+        for (int who = US; who <= OTHER_LAST; who++)
+            if (takes_part(who, kind)) keep(&best[who], time_of(who, kind, 1 << size, length));
+    printf("%d  %-11s  %7zu  %8.1f %7.2f", 1 << size, KIND[kind], length >> 10, best[US] / blocks, best[US] / (double)length);
+    for (int who = C_FIRST; who <= OTHER_LAST; who++)
+        if (takes_part(who, kind)) printf("  %8.2f", best[who] / best[US]);
+        else printf("  %8s", "-");
+    printf("\n");
+}
 
+/* runs at 64 KiB too */
 static void ratios(void) {
-    printf("Ours against others: their time / ours for as many bytes; above 1.00 ours is faster. 64 KiB of single blocks, runs of 1 MiB.\n");
+    printf("Ours against others: their time / ours for as many bytes; above 1.00 ours is faster. Single blocks, and runs.\n");
     printf("C gives the same bytes. All are release builds (C: gcc -O3). The destination buffers are not cleared between passes.\n");
+    printf("C side by side: two blocks, and by eight tables the most that pay, four at n = 1, three at n = 2, two at n = 4.\n");
     printf("Camellia and ARIA have keys and blocks of 128 bits. OpenSSL: %s.\n", others_version() ? others_version() : "not installed");
-    printf("%32s%20s%20s%20s\n", "ours", "C, block by block", "C, two side by side", "OpenSSL");
-    printf("n  kind         ns/block ns/byte   1 table  8 tables   1 table  8 tables  Camellia      ARIA\n");
+    printf("%41s%20s%30s%20s\n", "ours", "C, block by block", "C, side by side", "OpenSSL");
+    printf("n  kind             KiB  ns/block ns/byte   1 table  8 tables     1, two    8, two   8, most  Camellia      ARIA\n");
     for (int kind = 0; kind < KINDS; kind++)
         for (int size = 0; size < 3; size++) {
-            double best[ALL] = {0}, blocks = (double)LENGTH[kind] / (16 << size);
-            for (int pass = 0; pass < PASSES[kind]; pass++)
-                for (int who = US; who <= OTHER_LAST; who++)
-                    if (takes_part(who, kind)) keep(&best[who], time_of(who, kind, 1 << size, LENGTH[kind]));
-            long_run[kind][size] = best[US] / blocks;
-            printf("%d  %-11s  %8.1f %7.2f", 1 << size, KIND[kind], best[US] / blocks, best[US] / (double)LENGTH[kind]);
-            for (int who = C_FIRST; who <= OTHER_LAST; who++)
-                if (takes_part(who, kind)) printf("  %8.2f", best[who] / best[US]);
-                else printf("  %8s", "-");
-            printf("\n");
+            if (kind >= LAB_CBC_SEAL) ratio_line(kind, size, 1 << 16, 8 * PASSES[kind]);
+            ratio_line(kind, size, LENGTH[kind], PASSES[kind]);
         }
 }
 
@@ -265,7 +269,6 @@ static double short_run(int kind, int n, size_t length) {
     return read_clock(CLOCK_MONOTONIC) - began;
 }
 
-/* a short run beside what it may cost: 1.5 times its blocks' share of a long run, and one expansion */
 static void short_runs(void) {
     static double best[3][KINDS][4];
     for (int sweep = 0; sweep < 20; sweep++)
@@ -273,19 +276,13 @@ static void short_runs(void) {
             for (int kind = LAB_CBC_SEAL; kind < KINDS; kind++)
                 for (int i = 0; (size_t)16 << size << 2 * i <= 1024; i++)
                     for (int pass = 0; pass < 200; pass++) keep(&best[size][kind][i], short_run(kind, 1 << size, (size_t)16 << size << 2 * i));
-    printf("Short runs: ns a run, and in brackets 1.5 times its share of a long run plus one expansion, the quickest of the three.\n");
-    for (int size = 0; size < 3; size++) {
-        double expand = 0;
-        for (int l = 0; l < 3; l++) keep(&expand, expansions[size][l]);
+    printf("Short runs: ns a run.\n");
+    for (int size = 0; size < 3; size++)
         for (int kind = LAB_CBC_SEAL; kind < KINDS; kind++) {
             printf("%d  %-11s", 1 << size, KIND[kind]);
-            for (int i = 0; (size_t)16 << size << 2 * i <= 1024; i++) {
-                double share = long_run[kind][size] * (double)(1 << 2 * i);
-                printf("  %d bytes: %.0f (%.0f)", 16 << size << 2 * i, best[size][kind][i], 1.5 * share + expand);
-            }
+            for (int i = 0; (size_t)16 << size << 2 * i <= 1024; i++) printf("  %d bytes: %.0f", 16 << size << 2 * i, best[size][kind][i]);
             printf("\n");
         }
-    }
 }
 
 /* a row whose coefficients have eight bits each */

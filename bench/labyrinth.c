@@ -90,6 +90,29 @@ INLINE void two_blocks(int n, int wide, const uint64_t *k, const uint8_t *src, u
     leave(n, k, l2, r2, dst + 16 * n);
 }
 
+/* B blocks, round by round in turn, from words to words; x holds 2n words a block, the low half first */
+INLINE void side_by_side(int n, int B, const uint64_t *k, uint64_t x[4][8]) {
+    uint64_t l[4][4], r[4][4];
+    for (int b = 0; b < B; b++) {
+        for (int j = 0; j < n; j++) {
+            r[b][j] = rol(sub(S, x[b][j] + k[j]), 62);
+            l[b][j] = rol(sub(S, x[b][n + j] + k[n + j]), 2);
+        }
+        imix(n, l[b], r[b]);
+    }
+    for (int i = 0; i < 16; i += 2) {
+        for (int b = 0; b < B; b++) round_(n, 1, k + (2 + i) * n, r[b], l[b]);
+        for (int b = 0; b < B; b++) round_(n, 1, k + (3 + i) * n, l[b], r[b]);
+    }
+    for (int b = 0; b < B; b++) {
+        imix(n, r[b], l[b]);
+        for (int j = 0; j < n; j++) {
+            x[b][j] = sub(SI, rol(l[b][j], 2)) - k[18 * n + j];
+            x[b][n + j] = sub(SI, rol(r[b][j], 62)) - k[19 * n + j];
+        }
+    }
+}
+
 void lab_schedule(int n, const uint64_t *w, int back, uint64_t *k) {
     int order[20];
     order[0] = back ? 3 : 4;
@@ -169,6 +192,48 @@ INLINE void count(int n, int wide, int pairs, const uint64_t *k, const uint8_t *
     }
 }
 
+INLINE void load_block(int n, uint64_t *x, const uint8_t *p) {
+    for (int j = 0; j < 2 * n; j++) x[j] = load(p + 8 * j);
+}
+
+INLINE void xor_block(int n, uint8_t *dst, const uint64_t *x, const uint8_t *p) {
+    for (int j = 0; j < 2 * n; j++) store(dst + 8 * j, x[j] ^ load(p + 8 * j));
+}
+
+INLINE void open_most(int n, int B, const uint64_t *k, const uint8_t *start, const uint8_t *src, uint8_t *dst, size_t blocks) {
+    uint64_t x[4][8];
+    const uint8_t *chain = start;
+    for (; blocks >= (size_t)B; blocks -= (size_t)B) {
+        for (int b = 0; b < B; b++) load_block(n, x[b], src + 16 * n * b);
+        side_by_side(n, B, k, x);
+        for (int b = 0; b < B; b++) xor_block(n, dst + 16 * n * b, x[b], b ? src + 16 * n * (b - 1) : chain);
+        chain = src + 16 * n * (B - 1);
+        src += 16 * n * B;
+        dst += 16 * n * B;
+    }
+    open(n, 1, 0, k, chain, src, dst, blocks);
+}
+
+/* a counter in words, the last byte least: its words with their bytes in reverse */
+INLINE void count_words(int n, uint64_t *c) {
+    for (int j = 2 * n - 1; j >= 0 && ++c[j] == 0; j--) {}
+}
+
+INLINE void count_most(int n, int B, const uint64_t *k, const uint8_t *start, const uint8_t *src, uint8_t *dst, size_t blocks) {
+    uint64_t x[4][8], c[8];
+    for (int j = 0; j < 2 * n; j++) c[j] = __builtin_bswap64(load(start + 8 * j));
+    for (; blocks > 0; blocks -= blocks < (size_t)B ? blocks : (size_t)B) {
+        for (int b = 0; b < B; b++) {
+            for (int j = 0; j < 2 * n; j++) x[b][j] = __builtin_bswap64(c[j]);
+            count_words(n, c);
+        }
+        side_by_side(n, B, k, x);
+        for (int b = 0; b < B && (size_t)b < blocks; b++) xor_block(n, dst + 16 * n * b, x[b], src + 16 * n * b);
+        src += 16 * n * B;
+        dst += 16 * n * B;
+    }
+}
+
 /* each size and shape by itself */
 typedef void run(enum lab_kind kind, const uint64_t *k, const uint8_t *start, const uint8_t *src, uint8_t *dst, size_t blocks);
 
@@ -184,17 +249,27 @@ typedef void run(enum lab_kind kind, const uint64_t *k, const uint8_t *start, co
     }
 #define MAKE_SIZES(name, wide, pairs) MAKE(name##_1, 1, wide, pairs) MAKE(name##_2, 2, wide, pairs) MAKE(name##_4, 4, wide, pairs)
 
+#define MAKE_MOST(name, n, B) \
+    static void name(enum lab_kind kind, const uint64_t *k, const uint8_t *start, const uint8_t *src, uint8_t *dst, size_t blocks) { \
+        if (kind == LAB_CBC_OPEN) open_most(n, B, k, start, src, dst, blocks); \
+        else if (kind == LAB_CTR) count_most(n, B, k, start, src, dst, blocks); \
+    }
+
 MAKE_SIZES(one, 0, 0)
 MAKE_SIZES(eight, 1, 0)
 MAKE_SIZES(one_pairs, 0, 1)
 MAKE_SIZES(eight_pairs, 1, 1)
+MAKE_MOST(eight_most_1, 1, 4)
+MAKE_MOST(eight_most_2, 2, 3)
+MAKE_MOST(eight_most_4, 4, 2)
 
 void lab_run(enum lab_shape shape, enum lab_kind kind, int n, const uint64_t *k, const uint8_t *start, const uint8_t *src, uint8_t *dst, size_t blocks) {
-    static run *const RUNS[4][3] = {
+    static run *const RUNS[5][3] = {
         [LAB_ONE] = {one_1, one_2, one_4},
         [LAB_EIGHT] = {eight_1, eight_2, eight_4},
         [LAB_ONE_PAIRS] = {one_pairs_1, one_pairs_2, one_pairs_4},
         [LAB_EIGHT_PAIRS] = {eight_pairs_1, eight_pairs_2, eight_pairs_4},
+        [LAB_EIGHT_MOST] = {eight_most_1, eight_most_2, eight_most_4},
     };
     RUNS[shape][n / 2](kind, k, start, src, dst, blocks);
 }

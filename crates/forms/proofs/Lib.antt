@@ -10,3 +10,5 @@ pub mod Words
 pub mod Bytes
 pub mod Buffers
 pub mod Strings
+pub mod EachBlock
+pub mod Chains

@@ -1,12 +1,12 @@
 -- Laws of `tabulate`, and of an array that a loop fills from the front.
 -- Assumes nothing.
 use mathlib.Core.Path.{_≡_, refl, sym, ap, ap₂, _∙_}
-use mathlib.Core.List.{List, [], _∷_, _++_, append-assoc}
+use mathlib.Core.List.{List, [], _∷_, _++_, append-assoc, append-nil}
 use Prim.Native.Nat.{ℕ, zero, suc, _+_, _≤_, _<_}
 use native.Mathlib.Nat.{le-of-suc-le-suc, suc-add, zero-add}
 use native.Mathlib.Omega.{arith}
 use native.Mathlib.Numerals.{add-one}
-use lib.ListN.{getD, set, length, take, drop}
+use lib.ListN.{getD, set, length, take, drop, drop-of-length-le}
 use lib.Seq.{ext-getD, getD-set-same, getD-set-other, take-at, drop-cons, set-at, getD-at, getD-take, length-take-le}
 use borrow.Author.Count.{below-more}
 use Rattle.forms.specs.Lists.{tabulate}
@@ -89,3 +89,8 @@ module _ (f : ℕ → ℕ) (old : List ℕ) where
 
   pub replaced-front : {j n : ℕ} {xs : List ℕ} → j ≡ n → Replaced f old j xs → take n xs ≡ tabulate n f
   replaced-front {j} {n} e p = ap (take n) (replaced-end e p) ∙ take-at (tabulate n f) (drop n old) n (length-tabulate n f)
+
+  -- all of it
+  pub replaced-all : {j n : ℕ} {xs : List ℕ} → j ≡ n → length old ≡ n → Replaced f old j xs → xs ≡ tabulate n f
+  replaced-all {j} {n} e l p =
+      replaced-end e p ∙ ap (λ (x : List ℕ). tabulate n f ++ x) (drop-of-length-le old {i = n} (omega arith)) ∙ append-nil (tabulate n f)

@@ -1,26 +1,25 @@
 -- Laws of a buffer that is filled part by part: a part of it is lent, from one place to another, and comes back written.
 -- Assumes nothing.
-use mathlib.Core.Path.{_≡_, sym, ap, ap₂, _∙_}
+use mathlib.Core.Path.{_≡_, refl, sym, ap, ap₂, _∙_}
 use mathlib.Core.List.{List, [], _++_, append-assoc, append-nil}
-use Prim.Native.Nat.{ℕ, _-_, _≤_, min}
-use native.Mathlib.Omega.{arith, min-cases}
+use Prim.Native.Nat.{ℕ, zero, suc, _+_, _-_, _*_, _≤_, _<_}
+use native.Mathlib.Nat.{zero-mul, suc-mul}
+use native.Mathlib.Omega.{arith}
 use lib.ListN.{length, take, drop, length-append, length-drop, drop-of-length-le}
-use lib.Seq.{take-all, take-at, take-length, drop-at, drop-drop, drop-length, length-take-le}
+use lib.Seq.{take-all, take-at, drop-at, drop-drop, length-take-le}
 use Rattle.forms.specs.Lists.{over}
-
--- the part up to an end that the list may not reach
-pub take-min : (k : ℕ) (xs : List ℕ) → take (min k (length xs)) xs ≡ take k xs
-take-min k xs =
-    min-cases k (length xs) (take (min k (length xs)) xs ≡ take k xs) (λ h r. ap (λ (i : ℕ). take i xs) r)
-    (λ h r. ap (λ (i : ℕ). take i xs) r ∙ take-length xs ∙ sym (take-all k xs h))
-
-pub drop-min : (k : ℕ) (xs : List ℕ) → drop (min k (length xs)) xs ≡ drop k xs
-drop-min k xs =
-    min-cases k (length xs) (drop (min k (length xs)) xs ≡ drop k xs) (λ h r. ap (λ (i : ℕ). drop i xs) r)
-    (λ h r. ap (λ (i : ℕ). drop i xs) r ∙ drop-length xs ∙ sym (drop-of-length-le xs {i = k} h))
 
 pub part-length : (xs : List ℕ) (at end : ℕ) → at ≤ end → end ≤ length xs → length (take (end - at) (drop at xs)) ≡ end - at
 part-length xs at end h k = length-take-le (end - at) (drop at xs) (omega (arith, length-drop at xs))
+
+-- m blocks of z bytes are left from at on: one where the list goes on, none at its end
+pub block-left : (m z s at : ℕ) → s ≡ at + m * z → at < s → at + z ≤ s
+block-left zero z s at e h = let x : ⊥ = omega (arith, zero-mul z) in absurd x
+block-left (suc m) z s at e h = omega (arith, suc-mul m z)
+
+pub none-left : (m z s at : ℕ) → 0 < z → s ≡ at + m * z → s ≤ at → m ≡ 0
+none-left zero z s at p e h = refl
+none-left (suc m) z s at p e h = let x : ⊥ = omega (arith, suc-mul m z) in absurd x
 
 -- what a front part that was filled reads as
 pub take-filled : (k : ℕ) (s rest : List ℕ) {l : List ℕ} → length s ≡ k → l ≡ s → take k (l ++ rest) ≡ s
@@ -42,6 +41,15 @@ module _ (d ys : List ℕ) (at end : ℕ) (h : at ≤ end) (k : end ≤ length d
       ap (λ (x : List ℕ). take end x ++ rest) (sym (append-assoc (take at d) ys (drop (end - at) (drop at d))))
       ∙ ap (λ (x : List ℕ). x ++ rest) (take-at (take at d ++ ys) (drop (end - at) (drop at d)) end front-length)
       ∙ append-assoc (take at d) ys rest
+
+  -- behind the part d still stands
+  pub part-behind : drop end (take at d ++ (ys ++ drop (end - at) (drop at d))) ≡ drop end d
+  part-behind =
+      let on : at + (end - at) ≡ end = omega arith in
+      ap (drop end) (sym (append-assoc (take at d) ys (drop (end - at) (drop at d))))
+      ∙ drop-at (take at d ++ ys) (drop (end - at) (drop at d)) end front-length
+      ∙ drop-drop (end - at) at d
+      ∙ ap (λ (k : ℕ). drop k d) on
 
 -- all of d is filled
 pub all-filled : (d : List ℕ) (i : ℕ) {rest whole : List ℕ} → length d ≤ i → rest ≡ [] → take i d ++ rest ≡ whole → d ≡ whole

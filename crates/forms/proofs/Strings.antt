@@ -1,26 +1,27 @@
 -- Laws of byte strings: their XOR, the numbers that they are, and their blocks.
 -- Assumes nothing.
-use mathlib.Core.Path.{_≡_, refl, sym, ap, ap₂, _∙_, subst}
+use mathlib.Core.Path.{_≡_, refl, sym, ap, ap₂, _∙_, subst, fun-ext}
 use mathlib.Core.Bool.{true, false≢true}
 use mathlib.Core.Logic.{⊎-elim}
-use mathlib.Core.List.{List, [], _∷_, _++_}
+use mathlib.Core.List.{List, [], _∷_, _++_, append-assoc, append-nil}
 use Prim.Native.Nat.{ℕ, zero, suc, _+_, _-_, _*_, _/_, _%_, _^_, _≤_, _<_, min}
-use native.Mathlib.Nat.{eq-or-lt-of-le, le-of-suc-le-suc, div-eq-of-lt, mod-eq-of-lt, zero-div, mod-add-mod, suc-mul, add-mul, zero-mul, mul-le-mul-right, div-mul-le-self, mul-assoc, div-one, div-add-mod', add-comm, add-mul-div-right, zero-min, min-zero, suc-min-suc}
+use native.Mathlib.Nat.{eq-or-lt-of-le, le-of-suc-le-suc, div-eq-of-lt, mod-eq-of-lt, zero-div, mod-add-mod, suc-add, zero-add, suc-mul, add-mul, zero-mul, mul-le-mul-right, div-mul-le-self, mul-assoc, div-one, div-add-mod', add-comm, add-mul-div-right, zero-min, min-zero, suc-min-suc}
 use native.Mathlib.Numerals.{add-one}
-use native.Mathlib.Omega.{arith}
+use native.Mathlib.Omega.{arith, by-contra}
 use lib.Bits.{bitXor, xor-comm, xor-lt, xor-zero-r}
 use lib.Pow.{pow-add, shr-shr}
-use lib.ListN.{length, getD, take, drop, set, length-append, length-set, length-drop, take-append-drop, List·getD-append}
+use lib.ListN.{length, getD, take, drop, set, replicate, length-append, length-set, length-drop, take-append-drop, drop-of-length-le, List·getD-append}
 use borrow.Author.Tests.{eq-eqb, eqb-true}
 use lib.Dec.{eqb}
 use lib.Seq.{ext-getD, getD-set-same, getD-set-other, take-all, take-at, drop-at, getD-at, take-append-le, drop-append-le, drop-append-add, drop-drop, length-take-le}
 use Rattle.forms.specs.Lists.{tabulate}
 use Rattle.forms.specs.Words.{byte, join}
 use Rattle.forms.specs.Strings.{xorBytes, number, string, block, same}
+use Rattle.forms.specs.Mapped.{mapBlocks, eachBlock}
 use Rattle.forms.proofs.Xor.{xors}
 use Rattle.forms.proofs.Lists.{length-tabulate, getD-tabulate, tabulate-cong, tabulated, tabulate-add}
 use Rattle.forms.proofs.Words.{byte-lt, byte-xor, byte-join, join-byte, join-cong, join-lt}
-use Rattle.forms.proofs.Bytes.{Bytes, tabulate-small, take-bytes, drop-bytes}
+use Rattle.forms.proofs.Bytes.{Bytes, tabulate-small, take-bytes, drop-bytes, append-bytes}
 use Rattle.forms.proofs.Booleans.{and-both}
 
 -- ---- the XOR of two strings
@@ -42,6 +43,12 @@ xorBytes-comm (x ∷ xs) [] = refl
 xorBytes-comm (x ∷ xs) (y ∷ ys) = ap₂ _∷_ (xor-comm x y) (xorBytes-comm xs ys)
 
 -- as long as the shorter
+-- with zeros nothing changes
+pub xorBytes-zeros : (x : List ℕ) → xorBytes x (replicate (length x) 0) ≡ x
+unfolding xorBytes
+xorBytes-zeros [] = refl
+xorBytes-zeros (a ∷ x) = ap₂ _∷_ (xor-zero-r a) (xorBytes-zeros x)
+
 pub length-shorter : (xs ys : List ℕ) → length (xorBytes xs ys) ≡ min (length xs) (length ys)
 unfolding xorBytes
 length-shorter [] ys = sym (zero-min (length ys))
@@ -90,12 +97,15 @@ take-xorBytes (suc k) [] ys = refl
 take-xorBytes (suc k) (x ∷ xs) [] = refl
 take-xorBytes (suc k) (x ∷ xs) (y ∷ ys) = ap (_∷_ (bitXor x y)) (take-xorBytes k xs ys)
 
-drop-xorBytes : (k : ℕ) (xs ys : List ℕ) → drop k (xorBytes xs ys) ≡ xorBytes (drop k xs) (drop k ys)
+pub drop-xorBytes : (k : ℕ) (xs ys : List ℕ) → drop k (xorBytes xs ys) ≡ xorBytes (drop k xs) (drop k ys)
 unfolding xorBytes
 drop-xorBytes zero xs ys = refl
 drop-xorBytes (suc k) [] ys = refl
 drop-xorBytes (suc k) (x ∷ xs) [] = sym (xorBytes-nil (drop k xs))
 drop-xorBytes (suc k) (x ∷ xs) (y ∷ ys) = drop-xorBytes k xs ys
+
+pub xorBytes-parts : (k : ℕ) (xs ys : List ℕ) → xorBytes xs ys ≡ xorBytes (take k xs) (take k ys) ++ xorBytes (drop k xs) (drop k ys)
+xorBytes-parts k xs ys = sym (take-append-drop k (xorBytes xs ys)) ∙ ap₂ _++_ (take-xorBytes k xs ys) (drop-xorBytes k xs ys)
 
 -- ---- numbers and strings
 
@@ -243,6 +253,16 @@ whole-blocks z k e = omega (arith, div-add-mod' k z)
 pub blocks-more : (z m k : ℕ) → 0 < z → (m * z + k) / z ≡ m + k / z
 blocks-more z m k h = ap (λ (x : ℕ). x / z) (add-comm (m * z) k) ∙ add-mul-div-right k m h ∙ add-comm (k / z) m
 
+-- whole blocks that are not none have a first
+pub block-within : (z k : ℕ) → k % z ≡ 0 → 0 < k → z ≤ k
+block-within z k e h = by-contra z k (λ (l : k < z). omega (arith, mod-eq-of-lt l))
+
+-- whole blocks after whole blocks
+pub whole-rest : (z j k : ℕ) → j ≤ k → j % z ≡ 0 → k % z ≡ 0 → (k - j) % z ≡ 0
+whole-rest z j k h p q =
+    let e : j + (k - j) ≡ k = omega arith in
+    sym (ap (λ (x : ℕ). (x + (k - j)) % z) p ∙ ap (λ (x : ℕ). x % z) (zero-add (k - j))) ∙ mod-add-mod j z (k - j) ∙ ap (λ (x : ℕ). x % z) e ∙ q
+
 -- no blocks are no bytes
 pub no-block : (z : ℕ) (xs : List ℕ) → length xs ≡ 0 * z → xs ≡ []
 no-block z xs e = sym (take-all 0 xs (omega (arith, zero-mul z)))
@@ -337,3 +357,89 @@ same-eq [] [] e = refl
 same-eq [] (y ∷ ys) e = absurd (false≢true e)
 same-eq (x ∷ xs) [] e = absurd (false≢true e)
 same-eq (x ∷ xs) (y ∷ ys) e = let p = and-both (eqb x y) (same xs ys) e in ap₂ _∷_ (eqb-true x y (p .0)) (same-eq xs ys (p .1))
+
+-- ---- a map at each block
+
+module _ (m : List ℕ → List ℕ) (z : ℕ) where
+  pub mapBlocks-append : (j k : ℕ) (xs ys : List ℕ) → length xs ≡ j * z → mapBlocks m z (j + k) (xs ++ ys) ≡ mapBlocks m z j xs ++ mapBlocks m z k ys
+  unfolding mapBlocks
+  mapBlocks-append zero k xs ys e = ap₂ (λ (i : ℕ) (x : List ℕ). mapBlocks m z i (x ++ ys)) (zero-add k) (no-block z xs e)
+  mapBlocks-append (suc j) k xs ys e =
+      let h : z ≤ length xs = first-within z j xs (omega arith) in
+      ap (λ (i : ℕ). mapBlocks m z i (xs ++ ys)) (suc-add j k)
+      ∙ ap₂ (λ (a b : List ℕ). m a ++ mapBlocks m z (j + k) b) (take-append-le z xs ys h) (drop-append-le z xs ys h)
+      ∙ ap (λ (x : List ℕ). m (take z xs) ++ x) (mapBlocks-append j k (drop z xs) ys (length-rest z j xs e))
+      ∙ sym (append-assoc (m (take z xs)) (mapBlocks m z j (drop z xs)) (mapBlocks m z k ys))
+
+  pub eachBlock-nil : eachBlock m z [] ≡ []
+  unfolding eachBlock mapBlocks
+  eachBlock-nil = ap (λ (k : ℕ). mapBlocks m z k []) (zero-div z)
+
+  -- of whole blocks before any string
+  pub eachBlock-append : 0 < z → (xs ys : List ℕ) → length xs % z ≡ 0 → eachBlock m z (xs ++ ys) ≡ eachBlock m z xs ++ eachBlock m z ys
+  unfolding eachBlock
+  eachBlock-append pos xs ys w =
+      let e : length xs ≡ length xs / z * z = whole-blocks z (length xs) w in
+      let count : length (xs ++ ys) / z ≡ length xs / z + length ys / z =
+      ap (λ (x : ℕ). x / z) (length-append xs ys ∙ ap (λ (x : ℕ). x + length ys) e) ∙ blocks-more z (length xs / z) (length ys) pos in
+      ap (λ (k : ℕ). mapBlocks m z k (xs ++ ys)) count ∙ mapBlocks-append (length xs / z) (length ys / z) xs ys e
+
+  -- in two parts, the first of them whole blocks
+  pub eachBlock-parts : 0 < z → (k : ℕ) (xs : List ℕ) → k % z ≡ 0 → k ≤ length xs → eachBlock m z xs ≡ eachBlock m z (take k xs) ++ eachBlock m z (drop k xs)
+  eachBlock-parts pos k xs w h =
+      ap (eachBlock m z) (sym (take-append-drop k xs))
+      ∙ eachBlock-append pos (take k xs) (drop k xs) (ap (λ (x : ℕ). x % z) (length-take-le k xs h) ∙ w)
+
+  -- the first block, and those after it
+  pub eachBlock-front : 0 < z → (xs : List ℕ) → z ≤ length xs → eachBlock m z xs ≡ m (take z xs) ++ eachBlock m z (drop z xs)
+  unfolding eachBlock mapBlocks
+  eachBlock-front pos xs h =
+      let k : ℕ = length (drop z xs) in
+      let e : length xs ≡ 1 * z + k = omega (arith, length-drop z xs) in
+      let one : 1 + k / z ≡ suc (k / z) = omega arith in
+      ap (λ (i : ℕ). mapBlocks m z i xs) (ap (λ (x : ℕ). x / z) e ∙ blocks-more z 1 k pos ∙ one)
+
+  -- of one block
+  pub eachBlock-one : 0 < z → (b : List ℕ) → length b ≡ z → eachBlock m z b ≡ m b
+  eachBlock-one pos b e =
+      eachBlock-front pos b (omega arith)
+      ∙ ap₂ (λ (x y : List ℕ). m x ++ eachBlock m z y) (take-all z b (omega arith)) (drop-of-length-le b {i = z} (omega arith))
+      ∙ ap (λ (x : List ℕ). m b ++ x) eachBlock-nil ∙ append-nil (m b)
+
+  module _ (gives : (b : List ℕ) → length (m b) ≡ z) where
+    pub length-mapBlocks : (k : ℕ) (xs : List ℕ) → length (mapBlocks m z k xs) ≡ k * z
+    unfolding mapBlocks
+    length-mapBlocks zero xs = sym (zero-mul z)
+    length-mapBlocks (suc k) xs =
+        length-append (m (take z xs)) (mapBlocks m z k (drop z xs)) ∙ omega (arith, gives (take z xs), length-mapBlocks k (drop z xs), suc-mul k z)
+
+    -- of whole blocks
+    pub length-eachBlock : (xs : List ℕ) → length xs % z ≡ 0 → length (eachBlock m z xs) ≡ length xs
+    unfolding eachBlock
+    length-eachBlock xs w = length-mapBlocks (length xs / z) xs ∙ sym (whole-blocks z (length xs) w)
+
+    -- block i is m of block i
+    pub block-mapBlocks : (k i : ℕ) (xs : List ℕ) → i < k → block z i (mapBlocks m z k xs) ≡ m (block z i xs)
+    unfolding mapBlocks
+    block-mapBlocks zero i xs h = let w : ⊥ = omega arith in absurd w
+    block-mapBlocks (suc k) zero xs h = block-first z (m (take z xs)) (mapBlocks m z k (drop z xs)) (gives (take z xs)) ∙ ap m (sym (block-zero z xs))
+    block-mapBlocks (suc k) (suc i) xs h =
+        block-next z (m (take z xs)) (mapBlocks m z k (drop z xs)) (gives (take z xs)) i ∙ block-mapBlocks k i (drop z xs) (omega arith) ∙ ap m (sym (block-suc z i xs))
+
+    pub block-eachBlock : (i : ℕ) (xs : List ℕ) → i < length xs / z → block z i (eachBlock m z xs) ≡ m (block z i xs)
+    unfolding eachBlock
+    block-eachBlock i xs h = block-mapBlocks (length xs / z) i xs h
+
+  module _ (gives : (b : List ℕ) → Bytes (m b)) where
+    pub bytes-mapBlocks : (k : ℕ) (xs : List ℕ) → Bytes (mapBlocks m z k xs)
+    unfolding mapBlocks
+    bytes-mapBlocks zero xs i = omega arith
+    bytes-mapBlocks (suc k) xs i = append-bytes (m (take z xs)) (mapBlocks m z k (drop z xs)) (gives (take z xs)) (bytes-mapBlocks k (drop z xs)) i
+
+    pub bytes-eachBlock : (xs : List ℕ) → Bytes (eachBlock m z xs)
+    unfolding eachBlock
+    bytes-eachBlock xs = bytes-mapBlocks (length xs / z) xs
+
+-- maps that agree
+pub eachBlock-cong : (m f : List ℕ → List ℕ) → ((b : List ℕ) → m b ≡ f b) → (z : ℕ) (xs : List ℕ) → eachBlock m z xs ≡ eachBlock f z xs
+eachBlock-cong m f h z xs = ap (λ (g : List ℕ → List ℕ). eachBlock g z xs) (fun-ext h)

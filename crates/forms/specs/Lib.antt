@@ -1,4 +1,5 @@
 pub mod Lists
 pub mod Words
 pub mod Strings
+pub mod Mapped
 pub mod Refusals

@@ -117,7 +117,7 @@ unfolding wide
 narrow t e w = rw e
 
 -- the eight tables give what the one gives
-share-eight : (t : List ℕ) (b x : ℕ) → b < 8 → x < 2 ^ 8 → share true (eightTables t) b x ≡ share false t b x
+pub share-eight : (t : List ℕ) (b x : ℕ) → b < 8 → x < 2 ^ 8 → share true (eightTables t) b x ≡ share false t b x
 unfolding share eightTables
 share-eight t b x l m =
     let q : (256 * b + x) % 256 ≡ x = omega arith in

@@ -27,6 +27,7 @@ use Rattle.labyrinth.specs.Working.{Size, fourWords, held, blockIn}
 use Rattle.labyrinth.proofs.Blocks.{length-each, getD-each, length-zip, getD-zip}
 use Rattle.labyrinth.proofs.FourWords.{getD-four, take-four}
 use Rattle.labyrinth.proofs.Refusals.{legal-size-of}
+use Rattle.labyrinth.proofs.Rounds.{Sized}
 
 -- ---- IMix
 
@@ -121,13 +122,9 @@ entered S ks src {n} {m} {low} {high} e l p q r =
     (ap (take m) q ∙ take-four m (inHalf S m ks (1 * m) 2 src (8 * m)) (length-each m _ _) l)
     (ap (take m) p ∙ take-four m (inHalf S m ks (0 * m) 62 src 0) (length-each m _ _) l ∙ each-turn m _))
 
-length-IMix-high : (n : ℕ) (s : Block) → length (IMix n s .0) ≡ n
+pub imix-sized : (n : ℕ) (s : Block) → Sized n (IMix n s)
 unfolding IMix
-length-IMix-high n s = length-zip n bitXor _ _
-
-length-IMix-low : (n : ℕ) (s : Block) → length (IMix n s .1) ≡ n
-unfolding IMix
-length-IMix-low n s = length-zip n bitXor _ _
+imix-sized n s = record { left = length-zip n bitXor _ _; right = length-zip n bitXor _ _ }
 
 -- two halves put into a buffer of their length
 put-two : (d xs ys : List ℕ) (m : ℕ) → length xs ≡ m → length d ≡ m + m → put (0 + m) m ys (put 0 m xs d) ≡ xs ++ ys
@@ -154,10 +151,10 @@ left S ks h d {n} {m} {x} {d₁} {d₂} e l k p q r =
     out j y = zip m minus (each m (eachByte S) y) (half m ks j)
 
     low : take m (x .low) ≡ u .1
-    low = ap (λ (y : Halves). take m (y .low)) p ∙ take-four m (u .1) (length-IMix-low m _) l
+    low = ap (λ (y : Halves). take m (y .low)) p ∙ take-four m (u .1) (imix-sized m _ .right) l
 
     high : take m (x .high) ≡ u .0
-    high = ap (λ (y : Halves). take m (y .high)) p ∙ take-four m (u .0) (length-IMix-high m _) l
+    high = ap (λ (y : Halves). take m (y .high)) p ∙ take-four m (u .0) (imix-sized m _ .left) l
 
 -- ---- what is tested first
 

@@ -1,24 +1,28 @@
 -- The block map by what is lent: with what is prepared it is E or U; whatever is lent, it gives whole blocks, and is not refused.
 -- Assumes nothing.
-use mathlib.Core.Path.{_≡_, ap, _∙_}
-use mathlib.Core.Bool.{Bool}
+use mathlib.Core.Path.{_≡_, sym, ap, ap₂, _∙_, fun-ext}
+use mathlib.Core.Bool.{Bool, true}
 use mathlib.Core.List.{List}
 use Prim.Native.Nat.{ℕ, _*_}
 use lib.ListN.{length}
 use Rattle.forms.specs.Refusals.{outcome}
+use Rattle.forms.specs.Words.{eachByte}
 use Rattle.forms.proofs.Words.{OnBytes}
 use Rattle.forms.proofs.Bytes.{Bytes}
 use Rattle.field.specs.Substitution.{sub}
 use Rattle.field.specs.Merged.{merged}
 use Rattle.field.proofs.Substitution.{table1-undo}
-use Rattle.labyrinth.specs.Cipher.{partsOf, article}
+use Rattle.labyrinth.specs.Blocks.{load, store}
+use Rattle.labyrinth.specs.Cipher.{partsOf, article, EF, IT, FT}
 use Rattle.labyrinth.specs.Refusals.{blockRefusal}
-use Rattle.labyrinth.specs.Working.{Size, lineBytes, eightTables, lentRefusal, way}
+use Rattle.labyrinth.specs.Working.{Size, line, lineBytes, tableParts, eightTables, wide, lookupIn, lendable, lentRefusal, way}
+use Rattle.labyrinth.specs.Groups.{spaced, enterBy, leaveBy, lineBy, wideLent}
 use Rattle.labyrinth.specs.Lent.{Lendable, lent, Gives, Prepared, ArticlePrepared}
 use Rattle.labyrinth.proofs.Sizes.{legal-size}
 use Rattle.labyrinth.proofs.Blocks.{length-store, store-bytes}
 use Rattle.labyrinth.proofs.Refusals.{legal-iff, block-iff}
-use Rattle.labyrinth.proofs.Agree.{merged-length, HandedOut, handed-one, handed-eight, handed-lendable, tables-agree}
+use Rattle.labyrinth.proofs.Agree.{merged-length, eight-length, narrow, eight-give, HandedOut, handed-one, handed-eight, handed-lendable, tables-agree}
+use Rattle.labyrinth.proofs.Spaced.{spaced-each}
 use Rattle.labyrinth.proofs.Operations.{map-way, block-way, lent-number}
 
 -- ---- what is prepared of a substitution on bytes and a row gives E (false) or U (true), with the table as it is or as eight
@@ -66,6 +70,11 @@ module _ {back : Bool} {n : ℕ} {ws t s u ks : List ℕ} (p : ArticlePrepared b
 
 -- ---- whatever is lent
 
+-- a table of 256 words can be
+pub table-lendable : (t : List ℕ) → length t ≡ 256 → Lendable t
+unfolding lendable
+table-lendable t e = record { form = ap lendable e }
+
 module _ (n : ℕ) (t s u ks : List ℕ) where
   pub lent-length : (b : List ℕ) → length (lent n t s u ks b) ≡ 16 * n
   unfolding lent lineBytes
@@ -80,3 +89,16 @@ pub lent-block : (n : ℕ) (x old : List ℕ) {source r : ℕ} {t d : List ℕ} 
     → r ≡ lentRefusal n source (length old) (length t) → d ≡ outcome r x old → d ≡ x
 lent-block n x old {source} {r} {t} size l p q e w =
     w ∙ ap (λ (i : ℕ). outcome i x old) (e ∙ lent-number n source (length old) (length t) (l .form) ∙ block-iff n source (length old) .1 (legal-iff n .0 (legal-size n size), p, q))
+
+-- ---- in wider forms
+
+-- the table as eight and both substitutions spaced out give the same block map
+pub lent-wide : (n : ℕ) (t s u ks : List ℕ) → length t ≡ 256 → Bytes s → Bytes u → (b : List ℕ)
+    → lent n t s u ks b ≡ wideLent n (eightTables t) (spaced s) (spaced u) ks b
+unfolding wideLent lent lineBytes line EF tableParts lineBy enterBy leaveBy IT FT wide
+lent-wide n t s u ks e hs hu b =
+    ap (λ (SM : ℕ → ℕ). store n (lineBy (eachByte (sub s)) (eachByte (sub u)) SM n ks (load n b))) (fun-ext (λ w. narrow t e w ∙ sym (eight-give t w) ∙ wide-eight w))
+    ∙ ap₂ (λ (W W′ : ℕ → ℕ). store n (lineBy W W′ (lookupIn true (eightTables t)) n ks (load n b))) (fun-ext (λ w. sym (spaced-each s hs w))) (fun-ext (λ w. sym (spaced-each u hu w)))
+  where
+    wide-eight : (w : ℕ) → lookupIn (wide (eightTables t)) (eightTables t) w ≡ lookupIn true (eightTables t) w
+    wide-eight w = rw (eight-length t)

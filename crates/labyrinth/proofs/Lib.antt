@@ -6,6 +6,10 @@ pub mod Rounds
 pub mod Undo
 pub mod Agree
 pub mod Refusals
+pub mod Groups
+pub mod Spaced
+pub mod InMemory
+pub mod GroupLines
 pub mod Ends
 pub mod Schedule
 pub mod Expansion

@@ -44,6 +44,11 @@ getD-P n s y j h =
     source : ℕ → ℕ
     source i = getD (bytes n y) (9 * i % (8 * n)) 0
 
+-- byte b of it
+pub byte-P : (n : ℕ) → Size n → (y : List ℕ) (j b : ℕ) → j < n → b < 8 → byte (getD (P n y) j 0) b ≡ byte (getD y ((j + b) % n) 0) b
+byte-P n s y j b h l =
+    ap (λ (w : ℕ). byte w b) (getD-P n s y j h) ∙ byte-join 8 (λ b. byte (getD y ((j + b) % n) 0) b) (λ k. byte-lt (getD y ((j + k) % n) 0) k) b l
+
 -- P(n) reads n words
 pub P-take : (n : ℕ) (y : List ℕ) → P n (take n y) ≡ P n y
 unfolding P bytes
@@ -55,15 +60,13 @@ P-take n y =
 -- ---- what its bytes add, g of a byte's number and its value
 
 -- what byte b of word j adds
-pub term : (ℕ → ℕ → ℕ) → ℕ → List ℕ → ℕ → ℕ → ℕ
+unfoldable pub term : (ℕ → ℕ → ℕ) → ℕ → List ℕ → ℕ → ℕ → ℕ
 term g n y j b = g b (byte (getD y ((j + b) % n) 0) b)
 
 pub terms-P : (g : ℕ → ℕ → ℕ) (n : ℕ) → Size n → (y : List ℕ) (j : ℕ) → j < n → xorSum 8 (λ b. g b (byte (getD (P n y) j 0) b)) ≡ xorSum 8 (term g n y j)
 unfolding term
 terms-P g n s y j h =
-    let f : ℕ → ℕ = λ b. byte (getD y ((j + b) % n) 0) b in
-    ap (λ (w : ℕ). xorSum 8 (λ b. g b (byte w b))) (getD-P n s y j h)
-    ∙ xorSum-cong 8 (λ b. g b (byte (join 8 f) b)) (λ b. g b (f b)) (λ b l. ap (g b) (byte-join 8 f (λ k. byte-lt (getD y ((j + k) % n) 0) k) b l))
+    xorSum-cong 8 (λ b. g b (byte (getD (P n y) j 0) b)) (λ b. g b (byte (getD y ((j + b) % n) 0) b)) (λ b l. ap (g b) (byte-P n s y j b h l))
 
 -- past a multiple of n, and past 4, the words stand as they did
 around : (n : ℕ) → Size n → (j p d : ℕ) → p % n ≡ 0 → ((j + d) % n ≡ (j + (p + d)) % n) × ((j + d) % n ≡ (j + (p + d + 4)) % n)
@@ -76,6 +79,14 @@ multiple-more = sizes (λ n. (p : ℕ) → p % n ≡ 0 → (p + n) % n ≡ 0) (�
 
 pub multiple-end : (n : ℕ) → Size n → (p : ℕ) → p % n ≡ 0 → p ≤ 4 → 4 < p + n → p ≡ 4
 multiple-end = sizes (λ n. (p : ℕ) → p % n ≡ 0 → p ≤ 4 → 4 < p + n → p ≡ 4) (λ p e l h. omega arith) (λ p e l h. omega arith) (λ p e l h. omega arith)
+
+-- eight terms are four and the four behind them
+pub xorSum-eight : (f : ℕ → ℕ) → bitXor (xorSum 4 f) (xorSum 4 (λ b. f (b + 4))) ≡ xorSum 8 f
+unfolding xorSum
+xorSum-eight f = sorted (f 0) (f 1) (f 2) (f 3) (f 4) (f 5) (f 6) (f 7)
+  where
+    sorted : (a b c d e f g h : ℕ) → bitXor (bitXor (bitXor (bitXor a b) c) d) (bitXor (bitXor (bitXor e f) g) h) ≡ bitXor (bitXor (bitXor (bitXor (bitXor (bitXor (bitXor a b) c) d) e) f) g) h
+    sorted a b c d e f g h = simp xors
 
 -- two sums: of the terms below k with v, and of the terms below k that stand four on
 pub record Sums (g : ℕ → ℕ → ℕ) (n : ℕ) (y : List ℕ) (j v k even odd : ℕ) : Type 0 where
@@ -114,13 +125,7 @@ module _ (g : ℕ → ℕ → ℕ) (n : ℕ) (s : Size n) (y : List ℕ) (j v : 
   sums-all {p} {even} {odd} e l h =
       ap₂ bitXor (h .low ∙ ap (λ (k : ℕ). bitXor v (xorSum k (term g n y j))) e) (h .high ∙ ap (λ (k : ℕ). xorSum k (λ b. term g n y j (b + 4))) e)
       ∙ xor-assoc v (xorSum 4 (term g n y j)) (xorSum 4 (λ b. term g n y j (b + 4)))
-      ∙ ap (bitXor v) (eight (term g n y j) ∙ sym (terms-P g n s y j l))
-    where
-      sorted : (a b c d e f g h : ℕ) → bitXor (bitXor (bitXor (bitXor a b) c) d) (bitXor (bitXor (bitXor e f) g) h) ≡ bitXor (bitXor (bitXor (bitXor (bitXor (bitXor (bitXor a b) c) d) e) f) g) h
-      sorted a b c d e f g h = simp xors
-
-      eight : (f : ℕ → ℕ) → bitXor (xorSum 4 f) (xorSum 4 (λ b. f (b + 4))) ≡ xorSum 8 f
-      eight f = sorted (f 0) (f 1) (f 2) (f 3) (f 4) (f 5) (f 6) (f 7)
+      ∙ ap (bitXor v) (xorSum-eight (term g n y j) ∙ sym (terms-P g n s y j l))
 
 -- ---- by a lent table
 

@@ -51,6 +51,10 @@ words-front n ks k h len e =
 
 -- ---- one iteration, word by word
 
+-- the code adds the constant first, the article last
+pub constant-last : (v k w : ℕ) → bitXor (bitXor v k) w ≡ bitXor v (bitXor w k)
+constant-last v k w = simp xors
+
 -- word i of the new right half, as the code makes it
 abbrev newWord : (ℕ → ℕ) → ℕ → List ℕ → List ℕ → ℕ → ℕ
 newWord SM n y l₀ i = bitXor (bitXor (getD l₀ i 0) (getD constants i 0)) (SM (getD (P n y) i 0))
@@ -85,22 +89,26 @@ module _ (SM : ℕ → ℕ) (n : ℕ) (y l₀ r₀ : List ℕ) where
       (replaced-end _ l₀ e′ (p .left) ∙ ap (λ (x : List ℕ). x ++ drop n l₀) (sym (take-tabulate n r₀ hr)))
       (replaced-end _ r₀ e′ (p .right) ∙ ap (λ (x : List ℕ). x ++ drop n r₀)
       (tabulate-cong n (newWord SM n y l₀) (λ i. bitXor (getD (take n l₀) i 0) (getD (tabulate n after) i 0))
-      (λ i l. sorted (getD l₀ i 0) (getD constants i 0) (SM (getD (P n y) i 0))
+      (λ i l. constant-last (getD l₀ i 0) (getD constants i 0) (SM (getD (P n y) i 0))
       ∙ ap₂ bitXor (sym (getD-take n l₀ i 0 l))
       (ap (λ (z : List ℕ). bitXor (SM (getD z i 0)) (getD constants i 0)) (sym (P-take n y) ∙ ap (P n) e) ∙ sym (getD-tabulate n after 0 i l)))))
     where
-      sorted : (a b c : ℕ) → bitXor (bitXor a b) c ≡ bitXor a (bitXor c b)
-      sorted a b c = simp xors
-
       after : ℕ → ℕ
       after t = bitXor (SM (getD (P n (zip n plus (take n r₀) k)) t 0)) (getD constants t 0)
 
 -- ---- all iterations
 
 -- a block of n words a half
-record Sized (n : ℕ) (s : Block) : Type 0 where
-  left : length (s .0) ≡ n
-  right : length (s .1) ≡ n
+pub record Sized (n : ℕ) (s : Block) : Type 0 where
+  pub left : length (s .0) ≡ n
+  pub right : length (s .1) ≡ n
+
+pub rounds-sized : (SM : ℕ → ℕ) (n : ℕ) (K : ℕ → List ℕ) (i : ℕ) {s : Block} → Sized n s → Sized n (rounds SM n K i s)
+unfolding rounds round
+rounds-sized SM n K zero z = z
+rounds-sized SM n K (suc i) {s} z =
+    let x : Block = rounds SM n K i s in
+    record { left = rounds-sized SM n K i z .right; right = length-zip n bitXor (x .0) (F SM n (K i) (x .1)) }
 
 laid-block : (n : ℕ) (h : Halves) → laid n (blockIn n h) h ≡ h
 unfolding laid blockIn
@@ -125,16 +133,16 @@ module _ (n : ℕ) (s : Block) (z : Sized n s) (h : Halves) where
   )
 
 -- where the key words of an iteration stand
-place-next : (n : ℕ) → Size n → (i at : ℕ) → at ≡ (i + 2) * n → at + n ≡ (i + 1 + 2) * n
+pub place-next : (n : ℕ) → Size n → (i at : ℕ) → at ≡ (i + 2) * n → at + n ≡ (i + 1 + 2) * n
 place-next =
     sizes (λ n. (i at : ℕ) → at ≡ (i + 2) * n → at + n ≡ (i + 1 + 2) * n) (λ i at e. omega arith) (λ i at e. omega arith) (λ i at e. omega arith)
 
-place-in : (n : ℕ) → Size n → (i at : ℕ) → at ≡ (i + 2) * n → at < 18 * n → (i + 1 ≤ 16) × (at + n ≤ 80)
+pub place-in : (n : ℕ) → Size n → (i at : ℕ) → at ≡ (i + 2) * n → at < 18 * n → (i + 1 ≤ 16) × (at + n ≤ 80)
 place-in =
     sizes (λ n. (i at : ℕ) → at ≡ (i + 2) * n → at < 18 * n → (i + 1 ≤ 16) × (at + n ≤ 80))
     (λ i at e l. (omega arith, omega arith)) (λ i at e l. (omega arith, omega arith)) (λ i at e l. (omega arith, omega arith))
 
-place-end : (n : ℕ) → Size n → (i at : ℕ) → at ≡ (i + 2) * n → i ≤ 16 → 18 * n ≤ at → i ≡ 16
+pub place-end : (n : ℕ) → Size n → (i at : ℕ) → at ≡ (i + 2) * n → i ≤ 16 → 18 * n ≤ at → i ≡ 16
 place-end =
     sizes (λ n. (i at : ℕ) → at ≡ (i + 2) * n → i ≤ 16 → 18 * n ≤ at → i ≡ 16)
     (λ i at e h l. omega arith) (λ i at e h l. omega arith) (λ i at e h l. omega arith)
@@ -153,9 +161,8 @@ module _ (SM : ℕ → ℕ) (n : ℕ) (size : Size n) (ks : List ℕ) (h₀ : Ha
   K i = half n ks (i + 2)
 
   sized : (i : ℕ) → Sized n (rounds SM n K i (blockIn n h₀))
-  unfolding rounds round blockIn
-  sized zero = record { left = length-take-le n (h₀ .high) (omega arith); right = length-take-le n (h₀ .low) (omega arith) }
-  sized (suc i) = let s = rounds SM n K i (blockIn n h₀) in record { left = sized i .right; right = length-zip n bitXor (s .0) (F SM n (K i) (s .1)) }
+  unfolding blockIn
+  sized i = rounds-sized SM n K i (record { left = length-take-le n (h₀ .high) (omega arith); right = length-take-le n (h₀ .low) (omega arith) })
 
   pub ran-none : Ran SM n ks h₀ (2 * n) h₀
   unfolding rounds onBlock

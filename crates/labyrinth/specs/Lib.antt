@@ -4,3 +4,4 @@ pub mod Keys
 pub mod Refusals
 pub mod Working
 pub mod Lent
+pub mod Groups

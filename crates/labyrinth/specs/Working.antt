@@ -5,7 +5,7 @@ use mathlib.Core.Path.{_≡_}
 use Prim.Native.Nat.{ℕ, _+_, _*_, _/_, _%_, _<_, _≤_}
 use mathlib.Core.Bool.{Bool, true, false, _&&_, _||_}
 use mathlib.Core.List.{List, [], _∷_, _++_, reverse}
-use lib.Dec.{eqb, ltb}
+use lib.Dec.{eqb, leb, ltb}
 use lib.ListN.{getD, length, take, drop, replicate}
 use Rattle.forms.specs.Lists.{tabulate, xorSum, pick}
 use Rattle.forms.specs.Words.{byte, rotl, eachByte}
@@ -78,9 +78,9 @@ eightTables t = tabulate 2048 (λ i. rotl (getD t (i % 256) 0) (8 * (i / 256)))
 unfoldable pub lendable : ℕ → Bool
 lendable words = eqb words 256 || eqb words 2048
 
--- the eight pay for a run of so many bytes: more than 8 KiB, at n = 2 or 4 (a choice of ours)
-unfoldable pub pays : ℕ → ℕ → Bool
-pays n count = ltb 1 n && ltb 8192 count
+-- the wider forms pay for a string of so many bytes: 1 KiB and more (a choice of ours)
+unfoldable pub pays : ℕ → Bool
+pays count = leb 1024 count
 
 -- how many words it has, and whether it is the eight tables
 abbrev pub tableWords : Bool → ℕ

@@ -2,15 +2,17 @@
 -- a run in pieces.
 -- Assumes nothing.
 use mathlib.Core.Path.{_≡_, refl, sym, ap, ap₂, _∙_, fun-ext}
-use mathlib.Core.List.{List, [], _++_, append-assoc}
-use Prim.Native.Nat.{ℕ, zero, suc, _+_, _*_, _/_, _%_, _≤_, _<_}
-use native.Mathlib.Nat.{suc-mul, zero-mul, suc-add, zero-add, div-mul-le-self, mul-div-cancel}
+use mathlib.Core.List.{List, [], _∷_, _++_, append-assoc}
+use Prim.Native.Nat.{ℕ, zero, suc, _+_, _-_, _*_, _/_, _%_, _≤_, _<_}
+use native.Mathlib.Nat.{suc-mul, zero-mul, suc-add, zero-add, div-mul-le-self, mul-div-cancel, mod-self}
 use native.Mathlib.Omega.{arith}
-use lib.ListN.{length, take, drop, length-append, take-append-drop}
-use lib.Seq.{take-at, drop-at, take-append-le, drop-append-le}
+use lib.Bits.{bitXor}
+use lib.ListN.{length, take, drop, length-append, length-drop, take-append-drop}
+use lib.Seq.{take-at, drop-at, take-append-le, drop-append-le, length-take-le}
 use Rattle.forms.specs.Strings.{xorBytes, block}
+use Rattle.forms.specs.Mapped.{mapBlocks, eachBlock, chainBlocks}
 use Rattle.forms.proofs.Bytes.{Bytes, take-bytes, drop-bytes, append-bytes}
-use Rattle.forms.proofs.Strings.{length-xorBytes, bytes-xorBytes, xorBytes-undo, whole-blocks, blocks-more, no-block, first-within, length-first, rest-within, length-rest, block-zero, block-suc, block-first, block-next}
+use Rattle.forms.proofs.Strings.{nil-xorBytes, length-xorBytes, xorBytes-append, bytes-xorBytes, xorBytes-undo, whole-blocks, blocks-more, no-block, first-within, length-first, rest-within, length-rest, block-zero, block-suc, block-first, block-next, whole-rest, eachBlock-parts, length-eachBlock}
 use Rattle.modes.specs.Cbc.{sealBlocks, openBlocks, cbcSeal, cbcOpen, before}
 use Rattle.modes.proofs.Maps.{Keeps, Undone}
 
@@ -29,24 +31,17 @@ module _ (e f : List ℕ → List ℕ) (h : (b : List ℕ) → e b ≡ f b) wher
   pub openBlocks-cong : (z m : ℕ) (c s : List ℕ) → openBlocks e z m c s ≡ openBlocks f z m c s
   openBlocks-cong z m c s = ap (λ (g : List ℕ → List ℕ). openBlocks g z m c s) (fun-ext h)
 
--- ---- one block at a time
+-- ---- sealing is chaining: each block is e of it XOR what the one before it became
 
 module _ (e : List ℕ → List ℕ) (z : ℕ) where
-  pub seal-none : (c p : List ℕ) → sealBlocks e z 0 c p ≡ []
-  unfolding sealBlocks
-  seal-none c p = refl
+  sealBlocks-chain : (m : ℕ) (c p : List ℕ) → sealBlocks e z m c p ≡ chainBlocks e z m c p
+  unfolding sealBlocks chainBlocks
+  sealBlocks-chain zero c p = refl
+  sealBlocks-chain (suc m) c p = let d : List ℕ = e (xorBytes (take z p) c) in ap (λ (x : List ℕ). d ++ x) (sealBlocks-chain m d (drop z p))
 
-  pub seal-step : (m : ℕ) (c p : List ℕ) → sealBlocks e z (suc m) c p ≡ e (xorBytes (take z p) c) ++ sealBlocks e z m (e (xorBytes (take z p) c)) (drop z p)
-  unfolding sealBlocks
-  seal-step m c p = refl
-
-  pub open-none : (c s : List ℕ) → openBlocks e z 0 c s ≡ []
-  unfolding openBlocks
-  open-none c s = refl
-
-  pub open-step : (m : ℕ) (c s : List ℕ) → openBlocks e z (suc m) c s ≡ xorBytes (e (take z s)) c ++ openBlocks e z m (take z s) (drop z s)
-  unfolding openBlocks
-  open-step m c s = refl
+  pub cbcSeal-chain : (start p : List ℕ) → cbcSeal e z start p ≡ chainBlocks e z (length p / z) start p
+  unfolding cbcSeal
+  cbcSeal-chain start p = sealBlocks-chain (length p / z) start p
 
 -- ---- lengths and bytes
 
@@ -259,3 +254,51 @@ module _ (u : List ℕ → List ℕ) (z : ℕ) where
       ap (λ (x : ℕ). openBlocks u z x start (a ++ b)) (count-pieces z m a b h l)
       ∙ openBlocks-append m (length b / z) start a b l
       ∙ ap (λ (x : ℕ). openBlocks u z x start a ++ openBlocks u z (length b / z) (before z start a m) b) (count-piece z m a h l)
+
+-- ---- every block at once
+
+-- the XOR with a longer string is that with its front
+xorBytes-front : (xs ys : List ℕ) → xorBytes xs ys ≡ xorBytes xs (take (length xs) ys)
+unfolding xorBytes
+xorBytes-front [] ys = refl
+xorBytes-front (x ∷ xs) [] = refl
+xorBytes-front (x ∷ xs) (y ∷ ys) = ap (_∷_ (bitXor x y)) (xorBytes-front xs ys)
+
+module _ (u : List ℕ → List ℕ) (z : ℕ) (k : Keeps z u) where
+  openBlocks-each : (m : ℕ) (c s : List ℕ) → length c ≡ z → m * z ≤ length s → openBlocks u z m c s ≡ xorBytes (mapBlocks u z m s) (c ++ s)
+  unfolding openBlocks mapBlocks
+  openBlocks-each zero c s e h = sym (nil-xorBytes (c ++ s))
+  openBlocks-each (suc m) c s e h =
+      let f : List ℕ = take z s in
+      let rest : List ℕ = mapBlocks u z m (drop z s) in
+      let l : length (u f) ≡ length c = k .len f ∙ sym e in
+      ap (λ (x : List ℕ). xorBytes (u f) c ++ x) (openBlocks-each m f (drop z s) (length-first z m s h) (rest-within z m s h) ∙ ap (xorBytes rest) (take-append-drop z s))
+      ∙ sym (xorBytes-append (u f ++ rest) c s ∙ ap₂ (λ (x y : List ℕ). xorBytes x c ++ xorBytes y s) (take-at (u f) rest (length c) l) (drop-at (u f) rest (length c) l))
+
+  -- opening is u of every block, XOR the run one block back
+  pub cbcOpen-each : (c s : List ℕ) → length c ≡ z → cbcOpen u z c s ≡ xorBytes (eachBlock u z s) (c ++ s)
+  unfolding cbcOpen eachBlock
+  cbcOpen-each c s e = openBlocks-each (length s / z) c s e (div-mul-le-self (length s) z)
+
+  -- so in two pieces: the first block after the start block, and the others after the blocks before them
+  module _ (pos : 0 < z) (c s : List ℕ) (e : length c ≡ z) (w : length s % z ≡ 0) (h : length c ≤ length s) where
+    one-whole : length c % z ≡ 0
+    one-whole = ap (λ (i : ℕ). i % z) e ∙ mod-self z
+
+    pub first-whole : length (take (length c) s) % z ≡ 0
+    first-whole = ap (λ (i : ℕ). i % z) (length-take-le (length c) s h) ∙ one-whole
+
+    pub rest-whole : length (drop (length c) s) % z ≡ 0
+    rest-whole = ap (λ (i : ℕ). i % z) (length-drop (length c) s) ∙ whole-rest z (length c) (length s) h one-whole w
+
+    pub cbcOpen-pieces : cbcOpen u z c s ≡ xorBytes (eachBlock u z (take (length c) s)) c ++ xorBytes (eachBlock u z (drop (length c) s)) (take (length s - length c) s)
+    cbcOpen-pieces =
+        let a : List ℕ = eachBlock u z (take (length c) s) in
+        let b : List ℕ = eachBlock u z (drop (length c) s) in
+        let la : length a ≡ length c = length-eachBlock u z (k .len) (take (length c) s) first-whole ∙ length-take-le (length c) s h in
+        let lb : length b ≡ length s - length c = length-eachBlock u z (k .len) (drop (length c) s) rest-whole ∙ length-drop (length c) s in
+        cbcOpen-each c s e
+        ∙ ap (λ (x : List ℕ). xorBytes x (c ++ s)) (eachBlock-parts u z pos (length c) s one-whole h)
+        ∙ xorBytes-append (a ++ b) c s
+        ∙ ap₂ (λ (x y : List ℕ). xorBytes x c ++ xorBytes y s) (take-at a b (length c) la) (drop-at a b (length c) la)
+        ∙ ap (λ (x : List ℕ). xorBytes a c ++ x) (xorBytes-front b s ∙ ap (λ (i : ℕ). xorBytes b (take i s)) lb)

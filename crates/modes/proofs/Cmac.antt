@@ -14,6 +14,7 @@ use lib.ListN.{length, take, drop, set, replicate, length-append, length-drop, l
 use lib.Seq.{set-at, take-all, drop-at, take-append-le, drop-append-le, length-take-le}
 use Rattle.forms.specs.Lists.{when}
 use Rattle.forms.specs.Strings.{xorBytes, number, string, same}
+use Rattle.forms.specs.Mapped.{chainLast}
 use Rattle.forms.proofs.Bytes.{Bytes}
 use Rattle.forms.proofs.Strings.{length-xorBytes, length-shorter, take-xorBytes, xorBytes-comm, bytes-xorBytes, length-string, bytes-string, no-block, length-rest, first-within, same-refl, same-eq}
 use Rattle.modes.specs.Ctr.{blocks}
@@ -131,13 +132,12 @@ front-some (suc k) h = omega arith
 -- ---- the chain
 
 module _ (e : List ℕ → List ℕ) where
-  pub chain-none : (c p : List ℕ) → chain e 0 c p ≡ c
-  unfolding chain
-  chain-none c p = refl
-
-  pub chain-step : (m : ℕ) (c p : List ℕ) → chain e (suc m) c p ≡ chain e m (e (xorBytes c (take 16 p))) (drop 16 p)
-  unfolding chain
-  chain-step m c p = refl
+  -- its last block as any mode's chain has it, with the XOR's operands the other way round
+  pub chain-last : (m : ℕ) (c p : List ℕ) → chainLast e 16 m c p ≡ chain e m c p
+  unfolding chain chainLast
+  chain-last zero c p = refl
+  chain-last (suc m) c p =
+      ap (λ (x : List ℕ). chainLast e 16 m (e x) (drop 16 p)) (xorBytes-comm (take 16 p) c) ∙ chain-last m (e (xorBytes c (take 16 p))) (drop 16 p)
 
   pub chain-append : (m n : ℕ) (c p q : List ℕ) → length p ≡ m * 16 → chain e (m + n) c (p ++ q) ≡ chain e n (chain e m c p) q
   unfolding chain

@@ -1,18 +1,18 @@
 -- Laws of counter mode over any block map: what it keeps, that it undoes itself, each single block, and a run in pieces.
 -- Assumes nothing.
 use mathlib.Core.Path.{_≡_, refl, sym, ap, ap₂, _∙_, fun-ext}
-use mathlib.Core.List.{List, [], _++_, append-assoc}
+use mathlib.Core.List.{List, _++_, append-assoc, append-nil}
 use Prim.Native.Nat.{ℕ, zero, suc, _+_, _-_, _*_, _/_, _≤_, _<_, min}
 use native.Mathlib.Nat.{suc-mul, zero-mul, suc-add, zero-add, add-zero, add-assoc, div-add-mod', mod-lt}
 use native.Mathlib.Omega.{arith, min-cases}
 use lib.Arith.{digits-div}
-use lib.ListN.{length, take, drop, replicate, length-append, length-drop}
+use lib.ListN.{length, replicate, length-append}
 use lib.Seq.{take-at, drop-at}
 use Rattle.forms.specs.Lists.{tabulate}
 use Rattle.forms.specs.Words.{byte, join}
 use Rattle.forms.specs.Strings.{xorBytes, number, string, block}
 use Rattle.forms.proofs.Bytes.{Bytes, append-bytes}
-use Rattle.forms.proofs.Strings.{nil-xorBytes, length-xorBytes, bytes-xorBytes, xorBytes-undo, xorBytes-append, length-string, bytes-string, string-number, string-add, blocks-more, block-first, block-next, block-xorBytes}
+use Rattle.forms.proofs.Strings.{length-xorBytes, bytes-xorBytes, xorBytes-undo, xorBytes-append, length-string, bytes-string, string-number, string-add, blocks-more, block-first, block-next, block-xorBytes}
 use Rattle.modes.specs.Ctr.{counter, keyStream, blocks, ctr}
 use Rattle.modes.proofs.Maps.{Keeps}
 
@@ -154,7 +154,7 @@ module _ (e : List ℕ → List ℕ) (z : ℕ) (keeps : Keeps z e) (start : List
       block-xorBytes z i p (keyStream e z start q (blocks z (length p)))
       ∙ ap (xorBytes (block z i p)) (keyStream-block q (blocks z (length p)) i h)
 
--- ---- a run from its counter block on, one block at a time
+-- ---- a run from its counter block on, and one of one block
 
 module _ (e : List ℕ → List ℕ) (z : ℕ) where
   -- the key stream from a counter block on
@@ -170,19 +170,10 @@ module _ (e : List ℕ → List ℕ) (z : ℕ) where
   ctr-counter start q p =
       ap (xorBytes p) (stream-counter start q 0 (blocks z (length p)) ∙ ap (λ (x : ℕ). keyStream e z start x (blocks z (length p))) (add-zero q))
 
-  -- of no bytes
-  pub ctr-none : (start : List ℕ) (q : ℕ) (p : List ℕ) → p ≡ [] → ctr e z start q p ≡ []
-  unfolding ctr
-  ctr-none start q p h = ap (ctr e z start q) h ∙ nil-xorBytes (keyStream e z start q (blocks z 0))
-
-  -- the first block, a short one too, and the rest from the next counter block on
-  pub ctr-first : Keeps z e → 0 < z → (c : List ℕ) → length c ≡ z → Bytes c → (p : List ℕ) → 0 < length p
-      → ctr e z c 0 p ≡ xorBytes (take z p) (e c) ++ ctr e z (counter z c 1) 0 (drop z p)
+  -- of one block, perhaps a short one
+  pub ctr-one : 0 < z → (start : List ℕ) (q : ℕ) (p : List ℕ) → 0 < length p → length p ≤ z → ctr e z start q p ≡ xorBytes p (e (counter z start q))
   unfolding ctr keyStream
-  ctr-first keeps pos c lc hc p h =
-      let m : ℕ = blocks z (length (drop z p)) in
-      let rest : List ℕ = keyStream e z (counter z c 1) 0 m in
-      ap (λ (k : ℕ). xorBytes p (keyStream e z c 0 k)) (blocks-first z (length p) pos h ∙ ap (λ (k : ℕ). suc (blocks z k)) (sym (length-drop z p)))
-      ∙ ap₂ (λ (a r : List ℕ). xorBytes p (e a ++ r)) (counter-zero z c lc hc) (sym (stream-counter c 1 0 m))
-      ∙ xorBytes-append p (e c) rest
-      ∙ ap (λ (k : ℕ). xorBytes (take k p) (e c) ++ xorBytes (drop k p) rest) (keeps .len c)
+  ctr-one pos start q p h l =
+      let none : length p - z ≡ 0 * z = omega (arith, zero-mul z) in
+      ap (λ (k : ℕ). xorBytes p (keyStream e z start q k)) (blocks-first z (length p) pos h ∙ ap (λ (k : ℕ). suc (blocks z k)) none ∙ ap suc (blocks-whole z 0 pos))
+      ∙ ap (xorBytes p) (append-nil (e (counter z start q)))

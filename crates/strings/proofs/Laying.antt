@@ -52,15 +52,16 @@ lay-word xs d i w {e} h k l p q =
         tabulated 8 (byte w) 0 (take 8 (drop i xs)) (length-take-le 8 (drop i xs) (omega (arith, length-drop {A = ℕ} i xs)))
         (λ j m. getD-take 8 (drop i xs) j 0 m ∙ getD-drop i xs j 0 ∙ q j m)
 
+-- a byte of a word in a string
+pub byte-wordAt : (s : List ℕ) (i : ℕ) → Bytes s → i + 8 ≤ length s → (k : ℕ) → k < 8 → byte (wordAt s i) k ≡ getD s (i + k) 0
+byte-wordAt s i small h k m = ap (λ (w : ℕ). byte w k) (word-at s i h) ∙ byte-join 8 (λ b. getD s (i + b) 0) (λ b. small (i + b)) k m
+
 -- the XOR of two words is the XOR of their bytes
 pub xor-word : (a b : List ℕ) (i : ℕ) → Bytes a → Bytes b → i + 8 ≤ length a → i + 8 ≤ length b → (k : ℕ) → k < 8
     → getD (xorBytes a b) (i + k) 0 ≡ byte (bitXor (wordAt a i) (wordAt b i)) k
 xor-word a b i p q h j k m =
     getD-xorBytes a b (i + k) (omega arith) (omega arith)
-    ∙ sym (byte-xor k (wordAt a i) (wordAt b i) ∙ ap₂ bitXor (at a p h) (at b q j))
-  where
-    at : (s : List ℕ) → Bytes s → i + 8 ≤ length s → byte (wordAt s i) k ≡ getD s (i + k) 0
-    at s small h = ap (λ (w : ℕ). byte w k) (word-at s i h) ∙ byte-join 8 (λ b. getD s (i + b) 0) (λ b. small (i + b)) k m
+    ∙ sym (byte-xor k (wordAt a i) (wordAt b i) ∙ ap₂ bitXor (byte-wordAt a i p h k m) (byte-wordAt b i q j k m))
 
 -- as far as both go
 pub lay-all : (xs d : List ℕ) (m : ℕ) {e : List ℕ} → m ≡ min (length d) (length xs) → e ≡ take m xs ++ drop m d → e ≡ take (length d) xs ++ drop (length xs) d

@@ -1,7 +1,7 @@
 // The block map by the merged table: what it needs is prepared once for a working key, and lent to every block.
 //
-// A run prepares `table`, `substitution`, `inverse` and `schedule`, the table as `eight_tables` where that `pays`, and calls `map_block`
-// for each block. That they give E and U is a law of labyrinth's, `by-one` and `by-eight`.
+// A run prepares `table`, `substitution`, `inverse` and `schedule`. One block goes by `map_block`; many go by `many_blocks` or, where each hangs
+// on the one before, by `chains`, which are lent the same four. That these give E and U is a law of labyrinth's, `by-one`.
 use labyrinth::WorkingKey;
 ghost use mathlib.Core.Path.{_≡_};
 ghost use lib.ListN.{length};
@@ -13,7 +13,7 @@ ghost use Rattle.labyrinth.specs.Cipher.{article};
 ghost use Rattle.labyrinth.specs.Keys.{E, U};
 ghost use Rattle.labyrinth.specs.Refusals.{blockRefusal};
 ghost use Rattle.labyrinth.specs.Working.{eightTables, lendable, lentRefusal, way};
-ghost use Rattle.labyrinth.specs.Working.{schedule as laidOut, pays as worthEight};
+ghost use Rattle.labyrinth.specs.Working.{schedule as laidOut};
 ghost use Rattle.labyrinth.specs.Lent.{lent};
 
 // The merged table.
@@ -27,14 +27,9 @@ pub fn table() -> [u64; 256]
 pub fn eight_tables(t: &[u64; 256]) -> [u64; 2048]
     ensures { λ r. ⌜ r ≡ eightTables (now (t .entry)) ⌝ }
 {
-    eight_tables::make(t)
-}
-
-// Whether the eight tables pay for a run of so many bytes.
-pub fn pays(n: usize, count: usize) -> bool
-    ensures { λ r. ⌜ r ≡ worthEight n count ⌝ }
-{
-    eight_tables::pays(n, count)
+    let mut eight = eight_tables::zeros();
+    eight_tables::fill(t, &mut eight);
+    eight
 }
 
 // The substitution.

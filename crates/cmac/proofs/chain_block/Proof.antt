@@ -7,7 +7,7 @@ use borrow.Author.Needs.{needs}
 use Rattle.strings.proofs.Laying.{xor-whole}
 use Rattle.labyrinth.specs.Lent.{lent}
 use Rattle.labyrinth.proofs.Sizes.{size-one}
-use Rattle.labyrinth.proofs.Lent.{lent-block}
+use Rattle.labyrinth.proofs.Lent.{table-lendable, lent-block}
 use Rattle.cmac.proofs.chain_block.Statement.{statement}
 use Rattle.cmac.proofs.chain_block.Tie as tie
 
@@ -28,12 +28,12 @@ same-length c = search needs
 
 returns : tie.Need-returns
 returns c =
-    let mixed = c .before .before .before .before .before .before .xor-to in
+    let mixed = c .before .before .before .before .before .before .before .xor-to in
     let mapped = c .before .before .map-block in
     let s = c .before .before .before .before .before .before .before .before .before .before .before .before in
     let a = s .args in
     let m = lent 1 (a .t .now) (a .s .now) (a .u .now) (a .ks .now) in
-    lent-block 1 (m (mixed .last .0)) (a .c .now) size-one (s .pre .2) (mixed .kept .0) (s .pre .0) (mapped .ensures .0) (mapped .ensures .1)
+    lent-block 1 (m (mixed .last .0)) (a .c .now) size-one (table-lendable (a .t .now) (c .before .before .before .before .before .map-block-arg .given .0)) (mixed .kept .0) (s .pre .0) (mapped .ensures .0) (mapped .ensures .1)
     ∙ ap m (xor-whole (a .c .now) (a .block .now) (replicate 16 0) (omega arith) (omega arith) (mixed .ensures) refl)
 
 pub chain-block-spec : {M : Type 1} → statement M

@@ -8,7 +8,7 @@ use borrow.Author.Needs.{needs}
 use Rattle.labyrinth.specs.Working.{Size}
 use Rattle.labyrinth.specs.Lent.{lent, ArticlePrepared}
 use Rattle.labyrinth.proofs.Sizes.{size-one}
-use Rattle.labyrinth.proofs.Lent.{one-lendable, article-by-one}
+use Rattle.labyrinth.proofs.Lent.{article-by-one}
 use Rattle.modes.specs.Cmac.{mac}
 use Rattle.cmac.proofs.chained.Statement.{statement}
 use Rattle.cmac.proofs.chained.Tie as tie
@@ -25,9 +25,6 @@ inverse-requires c κs = search needs
 schedule-requires : tie.Need-schedule-requires
 schedule-requires c κs = search needs
 
-slice-aggregate-last-of : tie.Need-slice-aggregate-last-of
-slice-aggregate-last-of c = search needs
-
 -- what is prepared
 made : (c : tie.After-schedule) → let k = c .before .before .before .before .before .args .k in ArticlePrepared false (k .n) (k .words) (c .before .before .before .table .result) (c .before .before .substitution .result) (c .before .inverse .result) (c .schedule .result)
 made c = record {
@@ -38,7 +35,7 @@ made c = record {
 }
 
 last-of-requires : tie.Need-last-of-requires
-last-of-requires c κs = one-lendable (made (c .before .before .before .before))
+last-of-requires c κs = search needs
 
 returns : tie.Need-returns
 returns c =
@@ -57,6 +54,5 @@ chained-spec =
     substitution-requires
     inverse-requires
     schedule-requires
-    slice-aggregate-last-of
     last-of-requires
     returns)

@@ -5,7 +5,7 @@ use lib.ListN.{replicate}
 use borrow.Author.Needs.{needs}
 use Rattle.labyrinth.specs.Lent.{lent}
 use Rattle.labyrinth.proofs.Sizes.{size-one}
-use Rattle.labyrinth.proofs.Lent.{lent-block}
+use Rattle.labyrinth.proofs.Lent.{table-lendable, lent-block}
 use Rattle.cmac.proofs.zeros_enciphered.Statement.{statement}
 use Rattle.cmac.proofs.zeros_enciphered.Tie as tie
 
@@ -21,7 +21,7 @@ map-block-requires c κs = search needs
 returns : tie.Need-returns
 returns c =
     let s = c .before .before .before .before .before in
-    lent-block 1 (lent 1 (s .args .t .now) (s .args .s .now) (s .args .u .now) (s .args .ks .now) (replicate 16 0)) (replicate 16 0) size-one (s .pre) refl refl
+    lent-block 1 (lent 1 (s .args .t .now) (s .args .s .now) (s .args .u .now) (s .args .ks .now) (replicate 16 0)) (replicate 16 0) size-one (table-lendable (s .args .t .now) (c .before .before .before .before .map-block-arg .given .0)) refl refl
     (c .before .map-block .ensures .0) (c .before .map-block .ensures .1)
 
 pub zeros-enciphered-spec : {M : Type 1} → statement M

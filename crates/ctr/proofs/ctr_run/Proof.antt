@@ -12,7 +12,7 @@ use Rattle.strings.proofs.Laying.{block-copy-front, block-copy-length}
 use Rattle.labyrinth.specs.Lent.{lent}
 use Rattle.modes.specs.Ctr.{counter}
 use Rattle.modes.proofs.Ctr.{length-counter}
-use Rattle.ctr.proofs.Turns.{from-counter}
+use Rattle.ctr.proofs.Counting.{run-counter}
 use Rattle.ctr.proofs.ctr_run.Statement.{statement}
 use Rattle.ctr.proofs.ctr_run.Tie as tie
 
@@ -23,14 +23,14 @@ block-copy-requires c κs = search needs
 fits : (s : tie.Start) → length (s .args .start .now) ≤ 64
 fits s = omega (arith, s .pre .1, s .pre .0 .top)
 
-in-front : (c : tie.After-block-copy) → take (length (c .before .before .before .before .before .args .start .now)) (c .block-copy .result) ≡ c .before .before .before .before .before .args .start .now
-in-front c = block-copy-front (c .before .before .before .before .before .args .start .now) (fits (c .before .before .before .before .before)) (c .block-copy .ensures)
+in-front : (c : tie.After-block-copy) → take (length (c .before .before .before .before .args .start .now)) (c .block-copy .result) ≡ c .before .before .before .before .args .start .now
+in-front c = block-copy-front (c .before .before .before .before .args .start .now) (fits (c .before .before .before .before)) (c .block-copy .ensures)
 
 long : (c : tie.After-block-copy) → length (c .block-copy .result) ≡ 64
-long c = block-copy-length (c .before .before .before .before .before .args .start .now) (fits (c .before .before .before .before .before)) (c .block-copy .ensures)
+long c = block-copy-length (c .before .before .before .before .args .start .now) (fits (c .before .before .before .before)) (c .block-copy .ensures)
 
 array-borrow-prefix-counter : tie.Need-array-borrow-prefix-counter
-array-borrow-prefix-counter c = omega (arith, long c, fits (c .before .before .before .before .before))
+array-borrow-prefix-counter c = omega (arith, long c, fits (c .before .before .before .before))
 
 slice-aggregate-add-into : tie.Need-slice-aggregate-add-into
 slice-aggregate-add-into c = sym (ap length (in-front (c .before)))
@@ -46,10 +46,10 @@ first-length : (s : tie.Start) → length (first s) ≡ length (s .args .start .
 first-length s = length-counter (16 * s .args .n) (s .args .start .now) (s .args .q) ∙ sym (s .pre .1)
 
 -- q is added
-added : (c : tie.After-add-into) → c .add-into .last .0 ≡ first (c .before .before .before .before .before .before .before)
+added : (c : tie.After-add-into) → c .add-into .last .0 ≡ first (c .before .before .before .before .before .before)
 unfolding counter
 added c =
-    let s = c .before .before .before .before .before .before .before in
+    let s = c .before .before .before .before .before .before in
     c .add-into .ensures
     ∙ ap (λ (x : List ℕ). string (length x) (number x + s .args .q)) (in-front (c .before .before))
     ∙ ap (λ (k : ℕ). string k (number (s .args .start .now) + s .args .q)) (s .pre .1)
@@ -57,19 +57,19 @@ added c =
 array-borrow-prefix-counter-2 : tie.Need-array-borrow-prefix-counter-2
 array-borrow-prefix-counter-2 c =
     let a = c .before in
-    let s = a .before .before .before .before .before .before .before in
+    let s = a .before .before .before .before .before .before in
     omega (arith, length-append (a .add-into .last .0) (drop (length (s .args .start .now)) (a .before .before .block-copy .result)), ap length (added a), first-length s, long (a .before .before), fits s)
 
-slice-aggregate-ctr-blocks : tie.Need-slice-aggregate-ctr-blocks
-slice-aggregate-ctr-blocks c =
+slice-aggregate-from-counter : tie.Need-slice-aggregate-from-counter
+slice-aggregate-from-counter c =
     let a = c .before .before in
-    let s = a .before .before .before .before .before .before .before in
+    let s = a .before .before .before .before .before .before in
     sym (ap length (take-filled _ (first s) _ (first-length s) (added a)) ∙ first-length s)
 
-ctr-blocks-requires : tie.Need-ctr-blocks-requires
-ctr-blocks-requires c κs =
+from-counter-requires : tie.Need-from-counter-requires
+from-counter-requires c κs =
     let a = c .before .before .before in
-    let s = a .before .before .before .before .before .before .before in
+    let s = a .before .before .before .before .before .before in
     (s .pre .0, ap length (take-filled _ (first s) _ (first-length s) (added a)) ∙ first-length s ∙ s .pre .1, s .pre .2, s .pre .3)
 
 same-length : tie.Need-same-length
@@ -78,10 +78,10 @@ same-length c = search needs
 returns : tie.Need-returns
 returns c =
     let a = c .before .before .before .before .before .before .before in
-    let s = a .before .before .before .before .before .before .before in
+    let s = a .before .before .before .before .before .before in
     let e = lent (s .args .n) (s .args .t .now) (s .args .s .now) (s .args .u .now) (s .args .ks .now) in
-    from-counter e (16 * s .args .n) (s .args .start .now) (s .args .q) (s .args .src .now)
-    (c .before .before .before .ctr-blocks .ensures) (take-filled _ (first s) _ (first-length s) (added a))
+    run-counter e (16 * s .args .n) (s .args .start .now) (s .args .q) (s .args .src .now)
+    (c .before .before .before .from-counter .ensures) (take-filled _ (first s) _ (first-length s) (added a))
 
 pub ctr-run-spec : {M : Type 1} → statement M
 ctr-run-spec =
@@ -92,7 +92,7 @@ ctr-run-spec =
     slice-aggregate-add-into
     add-into-requires
     array-borrow-prefix-counter-2
-    slice-aggregate-ctr-blocks
-    ctr-blocks-requires
+    slice-aggregate-from-counter
+    from-counter-requires
     same-length
     returns)

@@ -1,4 +1,4 @@
--- A refusal leaves the destination; else what is prepared, in either form, gives E.
+-- A refusal leaves the destination; else what is prepared gives E.
 -- Assumes nothing.
 use mathlib.Core.Path.{sym, ap, _∙_}
 use mathlib.Core.Bool.{false}
@@ -8,7 +8,7 @@ use lib.ListN.{length}
 use borrow.Author.Needs.{needs}
 use Rattle.forms.proofs.Refusals.{refused-keeps}
 use Rattle.labyrinth.specs.Lent.{ArticlePrepared}
-use Rattle.labyrinth.proofs.Lent.{one-lendable, eight-lendable, article-by-one, article-by-eight}
+use Rattle.labyrinth.proofs.Lent.{one-lendable, article-by-one}
 use Rattle.modes.specs.Ctr.{ctr}
 use Rattle.modes.proofs.Refusals.{Ctr-taken, ctr-taken}
 use Rattle.ctr.proofs.run.Statement.{statement}
@@ -36,15 +36,6 @@ inverse-requires c κs = search needs
 schedule-requires : tie.Need-schedule-requires
 schedule-requires c κs = search needs
 
-pays-requires : tie.Need-pays-requires
-pays-requires c κs = search needs
-
-eight-tables-requires : tie.Need-eight-tables-requires
-eight-tables-requires c κs = search needs
-
-slice-aggregate-ctr-run : tie.Need-slice-aggregate-ctr-run
-slice-aggregate-ctr-run c = search needs
-
 -- what is prepared
 made : (c : tie.After-schedule) → let k = c .before .before .before .before .before .before .before .before .before .args .k in ArticlePrepared false (k .n) (k .words) (c .before .before .before .table .result) (c .before .before .substitution .result) (c .before .inverse .result) (c .schedule .result)
 made c = record {
@@ -56,16 +47,7 @@ made c = record {
 
 ctr-run-requires : tie.Need-ctr-run-requires
 ctr-run-requires c κs =
-    let p = c .before .before .before .before .before .before .before .before .before in
-    let k = taken (p .before .before .before .before) in
-    (k .size, k .start, k .same, eight-lendable (made p) (c .before .before .before .before .before .eight-tables .ensures))
-
-slice-aggregate-ctr-run-2 : tie.Need-slice-aggregate-ctr-run-2
-slice-aggregate-ctr-run-2 c = search needs
-
-ctr-run-requires-2 : tie.Need-ctr-run-requires-2
-ctr-run-requires-2 c κs =
-    let p = c .before .before .before .before .before .before .before in
+    let p = c .before .before .before .before .before in
     let k = taken (p .before .before .before .before) in
     (k .size, k .start, k .same, one-lendable (made p))
 
@@ -79,21 +61,9 @@ same-length c = search needs
 returns-2 : tie.Need-returns-2
 unfolding by-map
 returns-2 c =
-    let p = c .before .before .before .before .before .before .before .before .before .before .before .before in
-    let e = p .before .before .before .before in (
-      sym (e .if1 .left) ∙ e .before .ctr-refusal .ensures,
-      c .before .before .ctr-run .ensures ∙ ap (by-map e) (article-by-eight (made p) (c .before .before .before .before .before .before .before .before .eight-tables .ensures) (taken e .size)),
-    )
-
-same-length-2 : tie.Need-same-length-2
-same-length-2 c = search needs
-
-returns-3 : tie.Need-returns-3
-unfolding by-map
-returns-3 c =
-    let p = c .before .before .before .before .before .before .before .before .before .before in
+    let p = c .before .before .before .before .before .before .before .before in
     let e = p .before .before .before .before in
-    (sym (e .if1 .left) ∙ e .before .ctr-refusal .ensures, c .before .before .ctr-run2 .ensures ∙ ap (by-map e) (article-by-one (made p) (taken e .size)))
+    (sym (e .if1 .left) ∙ e .before .ctr-refusal .ensures, c .before .before .ctr-run .ensures ∙ ap (by-map e) (article-by-one (made p) (taken e .size)))
 
 pub run-spec : {M : Type 1} → statement M
 run-spec =
@@ -105,13 +75,6 @@ run-spec =
     substitution-requires
     inverse-requires
     schedule-requires
-    pays-requires
-    eight-tables-requires
-    slice-aggregate-ctr-run
     ctr-run-requires
-    slice-aggregate-ctr-run-2
-    ctr-run-requires-2
     same-length
-    returns-2
-    same-length-2
-    returns-3)
+    returns-2)
