@@ -191,15 +191,15 @@ class Maker:
                     yield self.case(op, n, l, self.length(op, n, 20))
 
     def near(self):
-        """Runs about 8 KiB long, where a program may change its way of working, and tags of 4 KiB; and the empty run, one byte, one block
-        and its neighbours."""
+        """Runs about 1, 2 and 8 KiB long, where a program may change its way of working, tags of 2 and 4 KiB; and the empty run, one byte, one
+        block and its neighbours."""
         for op in CBC + CTR + TAGS:
-            about = 4096 if op in TAGS else 8192
             for n, l in sizes(op):
                 block = 16 * n
-                long = [about - block, about, about + block] + [about - 1, about + 1, about + block - 1] * (op not in CBC)
-                for length in [about, about + block] if self.short else long:
-                    yield self.case(op, n, l, length)
+                for about in (2048, 4096) if op in TAGS else (1024, 2048, 8192):
+                    long = [about - block, about, about + block] + [about - 1, about + 1, about + block - 1] * (op not in CBC)
+                    for length in [about, about + block] if self.short else long:
+                        yield self.case(op, n, l, length)
                 for length in [0, block, 2 * block] + [1, block - 1, block + 1, 2 * block - 1, 2 * block + 1] * (op not in CBC):
                     yield self.case(op, n, l, length)
 

@@ -12,12 +12,15 @@ fn size(b: u8) -> usize
     b as usize
 }
 
-// The number of two bytes, lowest first.
+// The number of two bytes, lowest first; of none, 0.
 pub fn pair_at(s: &[u8], at: usize) -> usize
-    requires { ⌜ at < 2048 ⌝ }
     ensures { λ r. ⌜ r < 65536 ⌝ }
 {
-    size(byte_at(s, at)) + 256 * size(byte_at(s, at + 1))
+    if at < s.len() {
+        size(byte_at(s, at)) + 256 * size(byte_at(s, at + 1))
+    } else {
+        0
+    }
 }
 
 // The bytes from one place to another, or none.
