@@ -1,29 +1,33 @@
--- What the refusal of chaining blocks says in plain terms: when its number is 0.
+-- What the refusal of chaining blocks says in plain terms: which number when.
 -- Assumes nothing.
-use mathlib.Core.Path.{_≡_, sym, ap, _∙_}
+use mathlib.Core.Path.{_≡_, refl, sym, ap, _∙_}
 use mathlib.Core.Logic.{_↔_}
 use mathlib.Core.List.{List}
 use Prim.Native.Nat.{ℕ, _*_, _%_}
-use borrow.Author.Tests.{eq-eqb, eqb-true}
 use lib.Dec.{eqb}
-use Rattle.forms.specs.Refusals.{outcome}
-use Rattle.forms.proofs.Refusals.{unless-zero}
-use Rattle.forms.proofs.Booleans.{OneOf}
-use Rattle.labyrinth.specs.Refusals.{legal}
+use Rattle.forms.specs.Refusals.{Unless, outcome}
+use Rattle.forms.proofs.Refusals.{unless-plain, unless-four}
+use Rattle.forms.proofs.Booleans.{eqb-iff}
+use Rattle.labyrinth.specs.Refusals.{legal, Legal}
 use Rattle.labyrinth.specs.Working.{Size}
 use Rattle.labyrinth.proofs.Sizes.{legal-size}
 use Rattle.labyrinth.proofs.Refusals.{legal-iff, legal-size-of}
 use Rattle.chains.specs.Chains.{chainRefusal}
 
--- blocks are chained exactly when n is 1, 2 or 4, a block stands before the first, the source is whole blocks, and the destination is as long
-pub chain-iff : (n b s d : ℕ) → (chainRefusal n b s d ≡ 0) ↔ (OneOf 1 2 4 n × (b ≡ 16 * n) × (s % (16 * n) ≡ 0) × (d ≡ s))
+-- 1 unless n is 1, 2 or 4, then 6 unless a block stands before the first, then 4 unless the source is whole blocks, then 5 unless the destination
+-- is as long, else 0
+pub chain-number : (n b s d : ℕ) {r : ℕ} → r ≡ chainRefusal n b s d
+    → Unless (Legal n) (r ≡ 1) (Unless (b ≡ 16 * n) (r ≡ 6) (Unless (s % (16 * n) ≡ 0) (r ≡ 4) (Unless (d ≡ s) (r ≡ 5) (r ≡ 0))))
 unfolding chainRefusal
-chain-iff n b s d = (
-  λ e. let a = unless-zero (legal n) 0 _ e in let c = unless-zero (eqb b (16 * n)) 5 _ (a .1) in let f = unless-zero (eqb (s % (16 * n)) 0) 3 _ (c .1) in
-      let g = unless-zero (eqb d s) 4 0 (f .1) in
-      (legal-iff n .0 (a .0), eqb-true b (16 * n) (c .0), eqb-true (s % (16 * n)) 0 (f .0), eqb-true d s (g .0)),
-  λ h. rw (legal-iff n .1 (h .0), eq-eqb b (16 * n) (h .1), eq-eqb (s % (16 * n)) 0 (h .2), eq-eqb d s (h .3)),
-)
+chain-number n b s d e =
+    unless-plain (legal n) 1 _ e (legal-iff n) (λ e.
+    unless-plain (eqb b (16 * n)) 6 _ e (eqb-iff b (16 * n)) (λ e.
+    unless-plain (eqb (s % (16 * n)) 0) 4 _ e (eqb-iff (s % (16 * n)) 0) (λ e.
+    unless-plain (eqb d s) 5 _ e (eqb-iff d s) (λ e. e))))
+
+-- so blocks are chained exactly when all four hold
+pub chain-iff : (n b s d : ℕ) → (chainRefusal n b s d ≡ 0) ↔ (Legal n × (b ≡ 16 * n) × (s % (16 * n) ≡ 0) × (d ≡ s))
+chain-iff n b s d = unless-four (chain-number n b s d refl)
 
 -- what blocks that are chained have
 pub record Chain-taken (n b s d : ℕ) : Type 0 where

@@ -17,6 +17,9 @@ true-or true b e = refl
 true-or false b (inl e) = absurd (false≢true e)
 true-or false b (inr e) = e
 
+pub eqb-iff : (a b : ℕ) → (eqb a b ≡ true) ↔ (a ≡ b)
+eqb-iff a b = (eqb-true a b, eq-eqb a b)
+
 -- n is one of three numbers
 abbrev pub OneOf : ℕ → ℕ → ℕ → ℕ → Type 0
 OneOf a b c n = (n ≡ a) ⊎ ((n ≡ b) ⊎ (n ≡ c))
@@ -41,6 +44,13 @@ module _ (a b c n : ℕ) where
 pub and-both : (a b : Bool) → (a && b) ≡ true → (a ≡ true) × (b ≡ true)
 and-both true b e = (refl, e)
 and-both false b e = absurd (false≢true e)
+
+-- n is from a to b
+pub within-iff : (a b n : ℕ) → ((leb a n && leb n b) ≡ true) ↔ ((a ≤ n) × (n ≤ b))
+within-iff a b n = (
+  λ e. let h = and-both (leb a n) (leb n b) e in (leb-true a n (h .0), leb-true n b (h .1)),
+  λ h. rw (le-leb a n (h .0), le-leb n b (h .1)),
+)
 
 pub when-chosen : {A : Type 0} {r b : Bool} (x y : A) → r ≡ b → r ≡ true → x ≡ when b x y
 when-chosen x y e t = rw (sym e ∙ t)

@@ -4,11 +4,11 @@ use mathlib.Core.Path.{_≡_, refl, sym, ap, ap₂, _∙_}
 use mathlib.Core.List.{List, [], _∷_, _++_, append-assoc, append-nil}
 use mathlib.Core.Bool.{Bool}
 use Prim.Native.Nat.{ℕ, zero, suc, _+_, _-_, _*_, _^_, _≤_, _<_}
-use native.Mathlib.Nat.{mul-comm, suc-mul}
+use native.Mathlib.Nat.{mul-comm, zero-mul, suc-mul, add-mul}
 use native.Mathlib.Numerals.{add-one}
 use native.Mathlib.Omega.{arith}
 use lib.Bits.{bitXor, xor-comm}
-use lib.ListN.{length, getD, take, drop, set, replicate, length-append, List·getD-append}
+use lib.ListN.{length, getD, take, drop, set, replicate, length-append, length-replicate, List·getD-append, List·getD-eq-default}
 use lib.Seq.{set-at, append-snoc}
 use Rattle.forms.specs.Lists.{tabulate, xorSum, when}
 use Rattle.forms.specs.Words.{join, rotl, words}
@@ -168,6 +168,32 @@ product = sizes (λ n. (l : ℕ) → l ≤ 4 → n * l ≤ 16) (λ l h. omega ar
 
 pub within : (n : ℕ) → Size n → (j i : ℕ) → j < 8 → i < n → j * n + i < 32
 within = sizes (λ n. (j i : ℕ) → j < 8 → i < n → j * n + i < 32) (λ j i h l. omega arith) (λ j i h l. omega arith) (λ j i h l. omega arith)
+
+-- ---- 8n words, and zeros behind them
+
+length-grow : (SM : ℕ → ℕ) (n l j m : ℕ) (g ks : List ℕ) → length (grow SM n l j m g ks) ≡ length ks + m * n
+unfolding grow
+length-grow SM n l j zero g ks = omega (arith, zero-mul n)
+length-grow SM n l j (suc m) g ks =
+    let k = zip n bitXor (F SM n (delta n g) (half n ks (j - 1))) (half n ks (j - l)) in
+    length-grow SM n l (j + 1) m (delta n g) (ks ++ k) ∙ omega (arith, length-append ks k, length-zip n bitXor (F SM n (delta n g) (half n ks (j - 1))) (half n ks (j - l)), suc-mul m n)
+
+pub length-expandedWords : (SM : ℕ → ℕ) (n l : ℕ) (key : List ℕ) → l ≤ 8 → length (expandedWords SM n l key) ≡ 8 * n
+unfolding expandedWords
+length-expandedWords SM n l key h =
+    length-grow SM n l l (8 - l) (register n l (words (n * l) key)) (words (n * l) key)
+    ∙ ap (λ (k : ℕ). k + (8 - l) * n) (length-words (n * l) key ∙ mul-comm n l) ∙ sym (add-mul l (8 - l) n) ∙ ap (λ (k : ℕ). k * n) (split l h)
+  where
+    split : (l : ℕ) → l ≤ 8 → l + (8 - l) ≡ 8
+    split l h = omega arith
+
+-- a list of at most 32 words: 32 then, and zero from its end on
+pub length-padded : (ws : List ℕ) → length ws ≤ 32 → length (padded ws) ≡ 32
+unfolding padded
+length-padded ws h = length-append ws (replicate (32 - length ws) 0) ∙ omega (arith, length-replicate {A = ℕ} (32 - length ws) 0)
+
+pub padded-zero : (ws : List ℕ) (i : ℕ) → length ws ≤ i → getD (padded ws) i 0 ≡ 0
+padded-zero ws i h = getD-padded ws i ∙ List·getD-eq-default ws 0 h
 
 -- ---- what expansion answers
 

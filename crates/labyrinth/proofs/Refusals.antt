@@ -1,23 +1,23 @@
--- What the refusals say in plain terms: when each number is 0.
+-- What the refusals say in plain terms: which number when, in their order.
 -- Assumes nothing.
-use mathlib.Core.Path.{_≡_, sym, _∙_}
+use mathlib.Core.Path.{_≡_, refl, sym, _∙_}
 use mathlib.Core.Bool.{true}
-use mathlib.Core.Logic.{_⊎_, ⊎-elim, _↔_}
+use mathlib.Core.Logic.{⊎-elim, _↔_}
 use Prim.Native.Nat.{ℕ, _*_, _≤_}
 use native.Mathlib.Omega.{arith}
-use borrow.Author.Tests.{eq-eqb, eqb-true}
 use lib.Dec.{eqb}
-use Rattle.forms.proofs.Refusals.{unless-zero}
-use Rattle.forms.proofs.Booleans.{OneOf, one-of}
+use Rattle.forms.specs.Refusals.{Unless}
+use Rattle.forms.proofs.Refusals.{unless-plain, unless-three}
+use Rattle.forms.proofs.Booleans.{eqb-iff, one-of}
 use Rattle.labyrinth.specs.Working.{Size}
-use Rattle.labyrinth.specs.Refusals.{legal, legalLength, blockRefusal, expandRefusal}
+use Rattle.labyrinth.specs.Refusals.{legal, legalLength, Legal, LegalLength, blockRefusal, expandRefusal}
 use Rattle.labyrinth.proofs.Sizes.{size-one, size-two, size-four}
 
-pub legal-iff : (n : ℕ) → (legal n ≡ true) ↔ OneOf 1 2 4 n
+pub legal-iff : (n : ℕ) → (legal n ≡ true) ↔ Legal n
 unfolding legal
 legal-iff n = one-of 1 2 4 n
 
-pub legalLength-iff : (l : ℕ) → (legalLength l ≡ true) ↔ OneOf 2 3 4 l
+pub legalLength-iff : (l : ℕ) → (legalLength l ≡ true) ↔ LegalLength l
 unfolding legalLength
 legalLength-iff l = one-of 2 3 4 l
 
@@ -30,23 +30,28 @@ legalLength-low l e = ⊎-elim (λ (p : l ≡ 2). omega arith) (λ r. ⊎-elim (
 pub legalLength-top : (l : ℕ) → legalLength l ≡ true → l ≤ 4
 legalLength-top l e = ⊎-elim (λ (p : l ≡ 2). omega arith) (λ r. ⊎-elim (λ (p : l ≡ 3). omega arith) (λ (p : l ≡ 4). omega arith) r) (legalLength-iff l .0 e)
 
--- a block is taken exactly when n is 1, 2 or 4, the source has 16n bytes and so has the destination
-pub block-iff : (n s d : ℕ) → (blockRefusal n s d ≡ 0) ↔ (OneOf 1 2 4 n × (s ≡ 16 * n) × (d ≡ 16 * n))
+-- a block: 1 unless n is 1, 2 or 4, then 4 unless the source has 16n bytes, then 5 unless the destination has, else 0
+pub block-number : (n s d : ℕ) {r : ℕ} → r ≡ blockRefusal n s d → Unless (Legal n) (r ≡ 1) (Unless (s ≡ 16 * n) (r ≡ 4) (Unless (d ≡ 16 * n) (r ≡ 5) (r ≡ 0)))
 unfolding blockRefusal
-block-iff n s d = (
-  λ e. let a = unless-zero (legal n) 0 _ e in let b = unless-zero (eqb s (16 * n)) 3 _ (a .1) in let c = unless-zero (eqb d (16 * n)) 4 0 (b .1) in
-      (legal-iff n .0 (a .0), eqb-true s (16 * n) (b .0), eqb-true d (16 * n) (c .0)),
-  λ h. rw (legal-iff n .1 (h .0), eq-eqb s (16 * n) (h .1), eq-eqb d (16 * n) (h .2)),
-)
+block-number n s d e =
+    unless-plain (legal n) 1 _ e (legal-iff n) (λ e.
+    unless-plain (eqb s (16 * n)) 4 _ e (eqb-iff s (16 * n)) (λ e.
+    unless-plain (eqb d (16 * n)) 5 _ e (eqb-iff d (16 * n)) (λ e. e)))
 
--- a key is taken exactly when n is 1, 2 or 4, l is 2, 3 or 4, and the key has 8nl bytes
-pub expand-iff : (n l k : ℕ) → (expandRefusal n l k ≡ 0) ↔ (OneOf 1 2 4 n × OneOf 2 3 4 l × (k ≡ 8 * (n * l)))
+-- so it is taken exactly when all three hold
+pub block-iff : (n s d : ℕ) → (blockRefusal n s d ≡ 0) ↔ (Legal n × (s ≡ 16 * n) × (d ≡ 16 * n))
+block-iff n s d = unless-three (block-number n s d refl)
+
+-- a key: 1 unless n is 1, 2 or 4, then 2 unless l is 2, 3 or 4, then 3 unless the key has 8nl bytes, else 0
+pub expand-number : (n l k : ℕ) {r : ℕ} → r ≡ expandRefusal n l k → Unless (Legal n) (r ≡ 1) (Unless (LegalLength l) (r ≡ 2) (Unless (k ≡ 8 * (n * l)) (r ≡ 3) (r ≡ 0)))
 unfolding expandRefusal
-expand-iff n l k = (
-  λ e. let a = unless-zero (legal n) 0 _ e in let b = unless-zero (legalLength l) 1 _ (a .1) in let c = unless-zero (eqb k (8 * (n * l))) 2 0 (b .1) in
-      (legal-iff n .0 (a .0), legalLength-iff l .0 (b .0), eqb-true k (8 * (n * l)) (c .0)),
-  λ h. rw (legal-iff n .1 (h .0), legalLength-iff l .1 (h .1), eq-eqb k (8 * (n * l)) (h .2)),
-)
+expand-number n l k e =
+    unless-plain (legal n) 1 _ e (legal-iff n) (λ e.
+    unless-plain (legalLength l) 2 _ e (legalLength-iff l) (λ e.
+    unless-plain (eqb k (8 * (n * l))) 3 _ e (eqb-iff k (8 * (n * l))) (λ e. e)))
+
+pub expand-iff : (n l k : ℕ) → (expandRefusal n l k ≡ 0) ↔ (Legal n × LegalLength l × (k ≡ 8 * (n * l)))
+expand-iff n l k = unless-three (expand-number n l k refl)
 
 -- what a key that is taken has
 pub record Taken (n l k : ℕ) : Type 0 where

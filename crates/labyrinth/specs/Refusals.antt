@@ -1,5 +1,7 @@
 -- What is turned away, with document 01's numbers in its order of checks, and what is left then.
 -- Assumes nothing.
+use mathlib.Core.Path.{_≡_}
+use mathlib.Core.Logic.{_⊎_}
 use Prim.Native.Nat.{ℕ, zero, suc, _-_, _*_}
 use mathlib.Core.Bool.{Bool, _||_}
 use mathlib.Core.List.{List, [], _++_}
@@ -16,6 +18,13 @@ legal n = eqb n 1 || (eqb n 2 || eqb n 4)
 -- l is 2, 3 or 4
 unfoldable pub legalLength : ℕ → Bool
 legalLength l = eqb l 2 || (eqb l 3 || eqb l 4)
+
+-- the same in plain terms
+abbrev pub Legal : ℕ → Type 0
+Legal n = (n ≡ 1) ⊎ ((n ≡ 2) ⊎ (n ≡ 4))
+
+abbrev pub LegalLength : ℕ → Type 0
+LegalLength l = (l ≡ 2) ⊎ ((l ≡ 3) ⊎ (l ≡ 4))
 
 -- enciphering and deciphering a block: 1 if n is illegal, 4 if the source isn't 16n bytes, 5 if the destination isn't
 unfoldable pub blockRefusal : ℕ → ℕ → ℕ → ℕ

@@ -1,29 +1,32 @@
--- What the refusal of mapping many blocks says in plain terms: when its number is 0.
+-- What the refusal of mapping many blocks says in plain terms: which number when.
 -- Assumes nothing.
-use mathlib.Core.Path.{_≡_, sym, ap, _∙_}
+use mathlib.Core.Path.{_≡_, refl, sym, ap, _∙_}
 use mathlib.Core.List.{List}
 use mathlib.Core.Logic.{_↔_}
 use Prim.Native.Nat.{ℕ, _*_, _%_}
-use borrow.Author.Tests.{eq-eqb, eqb-true}
 use lib.Dec.{eqb}
-use Rattle.forms.specs.Refusals.{outcome}
-use Rattle.forms.proofs.Refusals.{unless-zero}
-use Rattle.forms.proofs.Booleans.{OneOf}
-use Rattle.labyrinth.specs.Refusals.{legal}
+use Rattle.forms.specs.Refusals.{Unless, outcome}
+use Rattle.forms.proofs.Refusals.{unless-plain, unless-four}
+use Rattle.forms.proofs.Booleans.{eqb-iff}
+use Rattle.labyrinth.specs.Refusals.{legal, Legal}
 use Rattle.labyrinth.specs.Working.{Size}
 use Rattle.labyrinth.proofs.Sizes.{legal-size}
 use Rattle.labyrinth.proofs.Refusals.{legal-iff, legal-size-of}
 use Rattle.many_blocks.specs.Many.{manyRefusal}
 
--- blocks are mapped exactly when n is 1, 2 or 4, the source is whole blocks, and the mask and the destination are as long
-pub many-iff : (n s k d : ℕ) → (manyRefusal n s k d ≡ 0) ↔ (OneOf 1 2 4 n × (s % (16 * n) ≡ 0) × (k ≡ s) × (d ≡ s))
+-- 1 unless n is 1, 2 or 4, then 4 unless the source is whole blocks, and unless the mask is as long, then 5 unless the destination is, else 0
+pub many-number : (n s k d : ℕ) {r : ℕ} → r ≡ manyRefusal n s k d
+    → Unless (Legal n) (r ≡ 1) (Unless (s % (16 * n) ≡ 0) (r ≡ 4) (Unless (k ≡ s) (r ≡ 4) (Unless (d ≡ s) (r ≡ 5) (r ≡ 0))))
 unfolding manyRefusal
-many-iff n s k d = (
-  λ e. let a = unless-zero (legal n) 0 _ e in let b = unless-zero (eqb (s % (16 * n)) 0) 3 _ (a .1) in let c = unless-zero (eqb k s) 3 _ (b .1) in
-      let f = unless-zero (eqb d s) 4 0 (c .1) in
-      (legal-iff n .0 (a .0), eqb-true (s % (16 * n)) 0 (b .0), eqb-true k s (c .0), eqb-true d s (f .0)),
-  λ h. rw (legal-iff n .1 (h .0), eq-eqb (s % (16 * n)) 0 (h .1), eq-eqb k s (h .2), eq-eqb d s (h .3)),
-)
+many-number n s k d e =
+    unless-plain (legal n) 1 _ e (legal-iff n) (λ e.
+    unless-plain (eqb (s % (16 * n)) 0) 4 _ e (eqb-iff (s % (16 * n)) 0) (λ e.
+    unless-plain (eqb k s) 4 _ e (eqb-iff k s) (λ e.
+    unless-plain (eqb d s) 5 _ e (eqb-iff d s) (λ e. e))))
+
+-- so blocks are mapped exactly when all four hold
+pub many-iff : (n s k d : ℕ) → (manyRefusal n s k d ≡ 0) ↔ (Legal n × (s % (16 * n) ≡ 0) × (k ≡ s) × (d ≡ s))
+many-iff n s k d = unless-four (many-number n s k d refl)
 
 -- what blocks that are mapped have
 pub record Many-taken (n s k d : ℕ) : Type 0 where

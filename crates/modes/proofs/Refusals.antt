@@ -1,37 +1,45 @@
--- What the refusals of the runs and the tags say in plain terms: when each number is 0.
+-- What the refusals of the runs and the tags say in plain terms: which number when, in their order.
 -- Assumes nothing.
 use mathlib.Core.Path.{_≡_, refl, sym, _∙_}
 use mathlib.Core.Bool.{Bool, true, false, _&&_}
 use mathlib.Core.Logic.{inl, _↔_}
 use Prim.Native.Nat.{ℕ, _*_, _%_, _≤_, _<_}
-use borrow.Author.Tests.{eq-eqb, ne-eqb, eqb-true, leb-true, le-leb, lt-leb}
+use borrow.Author.Tests.{eq-eqb, ne-eqb, lt-leb}
 use lib.Dec.{eqb, leb}
-use Rattle.forms.specs.Refusals.{unless}
-use Rattle.forms.proofs.Refusals.{unless-zero}
-use Rattle.forms.proofs.Booleans.{OneOf, and-both}
-use Rattle.labyrinth.specs.Refusals.{legal}
+use Rattle.forms.specs.Refusals.{unless, Unless}
+use Rattle.forms.proofs.Refusals.{unless-plain, unless-three, unless-four}
+use Rattle.forms.proofs.Booleans.{eqb-iff, within-iff}
+use Rattle.labyrinth.specs.Refusals.{legal, Legal}
 use Rattle.labyrinth.specs.Working.{Size}
 use Rattle.labyrinth.proofs.Refusals.{legal-iff, legal-size-of}
 use Rattle.modes.specs.Refusals.{cbcLengths, ctrLengths, cmacLengths, cbcRefusal, ctrRefusal, cmacRefusal}
 
--- a CBC run is taken exactly when n is 1, 2 or 4, the start block has 16n bytes, the source is whole blocks and the destination is as long
-pub cbc-iff : (n start s d : ℕ) → (cbcRefusal n start s d ≡ 0) ↔ (OneOf 1 2 4 n × (start ≡ 16 * n) × (s % (16 * n) ≡ 0) × (d ≡ s))
+-- a CBC run: 1 unless n is 1, 2 or 4, then 6 unless the start block has 16n bytes, then 4 unless the source is whole blocks, then 5 unless the
+-- destination is as long, else 0
+pub cbc-number : (n start s d : ℕ) {r : ℕ} → r ≡ cbcRefusal n start s d
+    → Unless (Legal n) (r ≡ 1) (Unless (start ≡ 16 * n) (r ≡ 6) (Unless (s % (16 * n) ≡ 0) (r ≡ 4) (Unless (d ≡ s) (r ≡ 5) (r ≡ 0))))
 unfolding cbcRefusal cbcLengths
-cbc-iff n start s d = (
-  λ e. let a = unless-zero (legal n) 0 _ e in let b = unless-zero (eqb start (16 * n)) 5 _ (a .1) in let c = unless-zero (eqb (s % (16 * n)) 0) 3 _ (b .1) in
-      let f = unless-zero (eqb d s) 4 0 (c .1) in
-      (legal-iff n .0 (a .0), eqb-true start (16 * n) (b .0), eqb-true (s % (16 * n)) 0 (c .0), eqb-true d s (f .0)),
-  λ h. rw (legal-iff n .1 (h .0), eq-eqb start (16 * n) (h .1), eq-eqb (s % (16 * n)) 0 (h .2), eq-eqb d s (h .3)),
-)
+cbc-number n start s d e =
+    unless-plain (legal n) 1 _ e (legal-iff n) (λ e.
+    unless-plain (eqb start (16 * n)) 6 _ e (eqb-iff start (16 * n)) (λ e.
+    unless-plain (eqb (s % (16 * n)) 0) 4 _ e (eqb-iff (s % (16 * n)) 0) (λ e.
+    unless-plain (eqb d s) 5 _ e (eqb-iff d s) (λ e. e))))
+
+-- so it is taken exactly when all four hold
+pub cbc-iff : (n start s d : ℕ) → (cbcRefusal n start s d ≡ 0) ↔ (Legal n × (start ≡ 16 * n) × (s % (16 * n) ≡ 0) × (d ≡ s))
+cbc-iff n start s d = unless-four (cbc-number n start s d refl)
 
 -- a CTR run: the same without the source's length
-pub ctr-iff : (n start s d : ℕ) → (ctrRefusal n start s d ≡ 0) ↔ (OneOf 1 2 4 n × (start ≡ 16 * n) × (d ≡ s))
+pub ctr-number : (n start s d : ℕ) {r : ℕ} → r ≡ ctrRefusal n start s d
+    → Unless (Legal n) (r ≡ 1) (Unless (start ≡ 16 * n) (r ≡ 6) (Unless (d ≡ s) (r ≡ 5) (r ≡ 0)))
 unfolding ctrRefusal ctrLengths
-ctr-iff n start s d = (
-  λ e. let a = unless-zero (legal n) 0 _ e in let b = unless-zero (eqb start (16 * n)) 5 _ (a .1) in let f = unless-zero (eqb d s) 4 0 (b .1) in
-      (legal-iff n .0 (a .0), eqb-true start (16 * n) (b .0), eqb-true d s (f .0)),
-  λ h. rw (legal-iff n .1 (h .0), eq-eqb start (16 * n) (h .1), eq-eqb d s (h .2)),
-)
+ctr-number n start s d e =
+    unless-plain (legal n) 1 _ e (legal-iff n) (λ e.
+    unless-plain (eqb start (16 * n)) 6 _ e (eqb-iff start (16 * n)) (λ e.
+    unless-plain (eqb d s) 5 _ e (eqb-iff d s) (λ e. e)))
+
+pub ctr-iff : (n start s d : ℕ) → (ctrRefusal n start s d ≡ 0) ↔ (Legal n × (start ≡ 16 * n) × (d ≡ s))
+ctr-iff n start s d = unless-three (ctr-number n start s d refl)
 
 -- what a CBC run that is taken has, i being the start block's length
 pub record Cbc-taken (n i s d : ℕ) : Type 0 where
@@ -56,7 +64,16 @@ ctr-taken n start s d p e =
     let h = ctr-iff n start s d .0 (sym p ∙ e) in
     record { size = legal-size-of n (legal-iff n .1 (h .0)); start = h .1; same = h .2 }
 
--- a tag: 12 for n = 2 and 4 whatever its length, then 11 for a length that is none
+-- a tag: 1 unless n is 1, 2 or 4, then 12 unless it is 1, then 11 unless there are 8 to 16 bytes, else 0
+pub cmac-number : (n t : ℕ) {r : ℕ} → r ≡ cmacRefusal n t
+    → Unless (Legal n) (r ≡ 1) (Unless (n ≡ 1) (r ≡ 12) (Unless ((8 ≤ t) × (t ≤ 16)) (r ≡ 11) (r ≡ 0)))
+unfolding cmacRefusal cmacLengths
+cmac-number n t e =
+    unless-plain (legal n) 1 _ e (legal-iff n) (λ e.
+    unless-plain (eqb n 1) 12 _ e (eqb-iff n 1) (λ e.
+    unless-plain (leb 8 t && leb t 16) 11 _ e (within-iff 8 16 t) (λ e. e)))
+
+-- in the code's own order of tests: 12 for n = 2 and 4 whatever its length, then 11 for a length that is none
 module _ (n t : ℕ) where
   pub cmac-large : legal n ≡ true → (n ≡ 1 → ⊥) → 12 ≡ cmacRefusal n t
   unfolding cmacRefusal cmacLengths
@@ -76,13 +93,9 @@ module _ (n t : ℕ) where
 
 -- a tag is made or verified exactly when n is 1 and it has 8 to 16 bytes
 pub cmac-iff : (n t : ℕ) → (cmacRefusal n t ≡ 0) ↔ ((n ≡ 1) × (8 ≤ t) × (t ≤ 16))
-unfolding cmacRefusal cmacLengths
-cmac-iff n t = (
-  λ e. let a = unless-zero (legal n) 0 _ e in let b = unless-zero (eqb n 1) 11 _ (a .1) in let c = unless-zero (leb 8 t && leb t 16) 10 0 (b .1) in
-      let d = and-both (leb 8 t) (leb t 16) (c .0) in
-      (eqb-true n 1 (b .0), leb-true 8 t (d .0), leb-true t 16 (d .1)),
-  λ h. rw (legal-iff n .1 (inl (h .0)), eq-eqb n 1 (h .0), le-leb 8 t (h .1), le-leb t 16 (h .2)),
-)
+cmac-iff n t =
+    let all = unless-three (cmac-number n t refl) in
+    (λ z. let h = all .0 z in (h .1, h .2 .0, h .2 .1), λ h. all .1 (inl (h .0), h .0, (h .1, h .2)))
 
 -- what a tag that is taken has
 pub record Cmac-taken (n t : ℕ) : Type 0 where

@@ -1,45 +1,193 @@
--- The demands hold: each statement, and the law that says it.
+-- The demands hold: each statement, and the law that says it. What is stated of an operation's answer follows from what its contract says.
 -- Assumes nothing.
-use mathlib.Core.Path.{refl, sym}
-use Prim.Native.Nat.{zero, suc}
-use Rattle.forms.proofs.Refusals.{refused-keeps}
+use mathlib.Core.Path.{_≡_, refl, sym, ap, ap₂, _∙_, subst}
+use mathlib.Core.Logic.{⊎-elim}
+use mathlib.Core.List.{List, []}
+use Prim.Native.Nat.{ℕ, zero, suc, _*_, _≤_}
+use native.Mathlib.Omega.{arith}
+use lib.ListN.{length}
+use Rattle.forms.specs.Lists.{over}
+use Rattle.forms.specs.Refusals.{outcome}
+use Rattle.forms.proofs.Refusals.{refused-keeps, unless-three, unless-four}
 use Rattle.field.specs.Published.{row}
 use Rattle.field.proofs.Mixing.{mix-xor, mix-rotl}
 use Rattle.field.proofs.Eight.{mix-row-eight}
+use Rattle.labyrinth.specs.declared.WorkingKey.{WorkingKey}
+use Rattle.labyrinth.specs.declared.Expanded.{Expanded}
 use Rattle.labyrinth.specs.Cipher.{article}
-use Rattle.labyrinth.specs.Refusals.{padded, expansion}
-use Rattle.labyrinth.proofs.Refusals.{block-iff, expand-iff}
+use Rattle.labyrinth.specs.Keys.{E, U, expandedWords}
+use Rattle.labyrinth.specs.Refusals.{Legal, LegalLength, padded, blockRefusal, expandRefusal, expansion}
+use Rattle.labyrinth.proofs.Refusals.{block-number, expand-number, expand-iff}
+use Rattle.labyrinth.proofs.Expansion.{length-expandedWords, length-padded, padded-zero}
 use Rattle.labyrinth.proofs.Undo.{U-E, E-U}
-use Rattle.labyrinth.proofs.Agree.{article-sound}
-use Rattle.modes.proofs.Refusals.{cbc-iff, ctr-iff}
+use Rattle.labyrinth.proofs.Agree.{article-sound, E-used, U-used}
+use Rattle.modes.specs.Cbc.{cbcSeal, cbcOpen}
+use Rattle.modes.specs.Ctr.{ctr}
+use Rattle.modes.specs.Refusals.{cbcRefusal, ctrRefusal}
+use Rattle.modes.proofs.Refusals.{cbc-number, cbc-iff, ctr-number, ctr-iff}
 use Rattle.modes.proofs.Again.{cbc-again, ctr-again}
-use Rattle.tape_run.proofs.Runs.{run-iff}
-use Rattle.promise.specs.Demands.{KeysTaken, BlocksTaken, CbcTaken, CtrTaken, TapesTaken, BuffersKept, KeysBlank, EAndUUndo, CbcOpensAgain, CtrOpensAgain, MixingOfXor, MixingRotated, MixingEightTimes}
+use Rattle.modes.proofs.Used.{seal-used, open-used, ctr-used}
+use Rattle.tape_rules.specs.declared.Tape.{Tape}
+use Rattle.tape_rules.specs.declared.Stepped.{Stepped}
+use Rattle.tape_rules.specs.Steps.{step}
+use Rattle.tape_rules.specs.Steps as tape
+use Rattle.tape_rules.proofs.Plain.{step-says}
+use Rattle.tape_rules.proofs.Used.{Alike, step-used}
+use Rattle.tape_run.specs.declared.Answered.{Answered}
+use Rattle.tape_run.specs.Runs.{Ran, returned}
+use Rattle.tape_run.proofs.Runs.{steps-used, run-says}
+use Rattle.promise.specs.Demands.{KeysTaken, BlocksTaken, CbcTaken, CtrTaken, Kept, AnswersKey, AnswersBlock, AnswersCbc, AnswersCtr, AnswersStep, AnswersTape, Expands, Maps, Enciphers, Deciphers, SealsCbc, OpensCbc, RunsCtr, Steps, WorksTape, UnusedWordsZero, SameUsed, AlikeStates, AlikeAnswers, TapesOfUsedWords, EAndUUndo, CbcOpensAgain, CtrOpensAgain, CbcCallsOpen, CtrCallsOpen, MixingOfXor, MixingRotated, MixingEightTimes}
 
 -- ---- demand 1
 
 pub keys-taken : KeysTaken
-keys-taken = expand-iff
+keys-taken n l key number u = unless-three u
 
 pub blocks-taken : BlocksTaken
-blocks-taken = block-iff
+blocks-taken n source destination number u = unless-three u
 
 pub cbc-runs-taken : CbcTaken
-cbc-runs-taken = cbc-iff
+cbc-runs-taken n start source destination number u = unless-four u
 
 pub ctr-runs-taken : CtrTaken
-ctr-runs-taken = ctr-iff
+ctr-runs-taken n start source destination number u = unless-three u
 
-pub tapes-taken : TapesTaken
-tapes-taken = run-iff
+-- what `outcome` leaves after a refusal
+pub kept : (number : ℕ) (result before : List ℕ) {after : List ℕ} → after ≡ outcome number result before → Kept number before after
+kept number result before e h = e ∙ sym (refused-keeps number result before h)
 
-pub buffers-kept : BuffersKept
-buffers-kept number result before h = sym (refused-keeps number result before h)
+module _ (n l : ℕ) (key : List ℕ) where
+  expansion-number : (r : ℕ) → expansion (article .SM) n l key r .number ≡ r
+  unfolding expansion
+  expansion-number zero = refl
+  expansion-number (suc r) = refl
 
-pub keys-blank : KeysBlank
-unfolding expansion padded
-keys-blank SM n l key zero h = absurd (h refl)
-keys-blank SM n l key (suc number) h = refl
+  expansion-blank : (r : ℕ) → (r ≡ 0 → ⊥) → expansion (article .SM) n l key r .key ≡ record { n = 0; words = padded [] }
+  unfolding expansion
+  expansion-blank zero h = absurd (h refl)
+  expansion-blank (suc r) h = refl
+
+  pub answers-key : {answer : Expanded} → Expands n l key answer → AnswersKey n l key answer
+  unfolding padded
+  answers-key {answer} h =
+      let r = expandRefusal n l (length key) in
+      let e : answer .number ≡ r = ap (λ (x : Expanded). x .number) h ∙ expansion-number r in
+      (expand-number n l (length key) e, λ z. ap (λ (x : Expanded). x .key) h ∙ expansion-blank r (λ y. z (e ∙ y)))
+
+pub answers-block : (map : List ℕ → List ℕ) (k : WorkingKey) (source : List ℕ) {number : ℕ} {before after : List ℕ}
+    → Maps map (k .n) source number before after → AnswersBlock k source number before after
+answers-block map k source {number} {before} h = (block-number (k .n) (length source) (length before) (h .0), kept number (map source) before (h .1))
+
+module _ (k : WorkingKey) (start source : List ℕ) {number : ℕ} {before after : List ℕ} where
+  pub seals-answers : SealsCbc k start source number before after → AnswersCbc k start source number before after
+  seals-answers h = (cbc-number (k .n) (length start) (length source) (length before) (h .0), kept number (cbcSeal (E article (k .n) (k .words)) (16 * k .n) start source) before (h .1))
+
+  pub opens-answers : OpensCbc k start source number before after → AnswersCbc k start source number before after
+  opens-answers h = (cbc-number (k .n) (length start) (length source) (length before) (h .0), kept number (cbcOpen (U article (k .n) (k .words)) (16 * k .n) start source) before (h .1))
+
+  pub ctr-answers : (q : ℕ) → RunsCtr k start q source number before after → AnswersCtr k start source number before after
+  ctr-answers q h = (ctr-number (k .n) (length start) (length source) (length before) (h .0), kept number (ctr (E article (k .n) (k .words)) (16 * k .n) start q source) before (h .1))
+
+pub answers-step : (t : Tape) (rest : List ℕ) {answer : Stepped} {before after : List ℕ} → Steps t rest answer before after → AnswersStep t rest answer before after
+answers-step t rest {answer} {before} {after} h =
+    step-says (λ number taken written next.
+    (answer ≡ record { number = number; taken = taken; written = length written; next = next }) × (after ≡ over written before)) t rest (length before) h
+
+pub answers-tape : (tape : List ℕ) {answer : Answered} {before after : List ℕ} → WorksTape tape answer before after → AnswersTape tape answer before after
+answers-tape tape {answer} {before} {after} h =
+    run-says (λ (q : Ran). (answer ≡ returned q) × (after ≡ over (q .written) before)) tape (length before) h
+
+-- ---- the working key
+
+pub unused-words-zero : (n l : ℕ) (key : List ℕ) {answer : Expanded} → Expands n l key answer → UnusedWordsZero answer
+unfolding expansion
+unused-words-zero n l key {answer} h = rw h (by-number (expandRefusal n l (length key)) refl)
+  where
+    by-number : (r : ℕ) → expandRefusal n l (length key) ≡ r → UnusedWordsZero (expansion (article .SM) n l key r)
+    by-number zero e =
+        let t = expand-iff n l (length key) .0 e in
+        let low : l ≤ 8 = ⊎-elim (λ (p : l ≡ 2). omega arith) (λ o. ⊎-elim (λ (p : l ≡ 3). omega arith) (λ (p : l ≡ 4). omega arith) o) (t .1) in
+        let top : n ≤ 4 = ⊎-elim (λ (p : n ≡ 1). omega arith) (λ o. ⊎-elim (λ (p : n ≡ 2). omega arith) (λ (p : n ≡ 4). omega arith) o) (t .0) in
+        let s = length-expandedWords (article .SM) n l key low in
+        (length-padded (expandedWords (article .SM) n l key) (omega arith), λ i g. padded-zero (expandedWords (article .SM) n l key) i (omega arith))
+    by-number (suc r) e = (length-padded [] (omega arith), λ i g. padded-zero [] i (omega arith))
+
+-- an operation that answers a number and fills a destination, both by what the key and the rest of the arguments give: g and g′ of two calls
+module _ {G : Type 0} (R : WorkingKey → G → ℕ) (M : WorkingKey → G → List ℕ) (held : G → List ℕ)
+    (same : (k j : WorkingKey) → SameUsed k j → (g : G) → (R k g ≡ R j g) × (M k g ≡ M j g)) where
+  pub two-calls : (k j : WorkingKey) {g g′ : G} {y z : ℕ} {e f : List ℕ} → SameUsed k j → g ≡ g′ → (y ≡ R k g) × (e ≡ outcome y (M k g) (held g))
+      → (z ≡ R j g′) × (f ≡ outcome z (M j g′) (held g′)) → (y ≡ z) × (e ≡ f)
+  two-calls k j {g} {g′} {y} {z} s p u v =
+      let r : y ≡ z = u .0 ∙ same k j s g .0 ∙ ap (R j) p ∙ sym (v .0) in
+      (r, u .1 ∙ ap₂ (λ (i : ℕ) (x : List ℕ). outcome i x (held g)) r (same k j s g .1) ∙ ap (λ (x : G). outcome z (M j x) (held x)) p ∙ sym (v .1))
+
+-- a map under two such keys
+pub map-used : (map : ℕ → List ℕ → List ℕ) → (k j : WorkingKey) → SameUsed k j → map (k .n) (k .words) ≡ map (k .n) (j .words) → map (k .n) (k .words) ≡ map (j .n) (j .words)
+map-used map k j s e = e ∙ ap (λ (n : ℕ). map n (j .words)) (s .0)
+
+module _ (k j : WorkingKey) (s : SameUsed k j) where
+  pub enciphers-used : {g g′ : List ℕ × List ℕ} {y z : ℕ} {e f : List ℕ} → g ≡ g′ → Enciphers k (g .0) y (g .1) e → Enciphers j (g′ .0) z (g′ .1) f
+      → (y ≡ z) × (e ≡ f)
+  enciphers-used =
+      two-calls (λ k g. blockRefusal (k .n) (length (g .0)) (length (g .1))) (λ k g. E article (k .n) (k .words) (g .0)) (λ g. g .1)
+      (λ k j s g. (
+        ap (λ (n : ℕ). blockRefusal n (length (g .0)) (length (g .1))) (s .0),
+        map-used (λ n ws. E article n ws (g .0)) k j s (E-used article (k .n) (k .words) (j .words) (s .1) (g .0)),
+      )) k j s
+
+  pub deciphers-used : {g g′ : List ℕ × List ℕ} {y z : ℕ} {e f : List ℕ} → g ≡ g′ → Deciphers k (g .0) y (g .1) e → Deciphers j (g′ .0) z (g′ .1) f
+      → (y ≡ z) × (e ≡ f)
+  deciphers-used =
+      two-calls (λ k g. blockRefusal (k .n) (length (g .0)) (length (g .1))) (λ k g. U article (k .n) (k .words) (g .0)) (λ g. g .1)
+      (λ k j s g. (
+        ap (λ (n : ℕ). blockRefusal n (length (g .0)) (length (g .1))) (s .0),
+        map-used (λ n ws. U article n ws (g .0)) k j s (U-used article (k .n) (k .words) (j .words) (s .1) (g .0)),
+      )) k j s
+
+  pub seals-used : {g g′ : List ℕ × List ℕ × List ℕ} {y z : ℕ} {e f : List ℕ} → g ≡ g′ → SealsCbc k (g .0) (g .1) y (g .2) e → SealsCbc j (g′ .0) (g′ .1) z (g′ .2) f
+      → (y ≡ z) × (e ≡ f)
+  seals-used =
+      two-calls (λ k g. cbcRefusal (k .n) (length (g .0)) (length (g .1)) (length (g .2))) (λ k g. cbcSeal (E article (k .n) (k .words)) (16 * k .n) (g .0) (g .1)) (λ g. g .2)
+      (λ k j s g. (
+        ap (λ (n : ℕ). cbcRefusal n (length (g .0)) (length (g .1)) (length (g .2))) (s .0),
+        map-used (λ n ws. cbcSeal (E article n ws) (16 * n) (g .0) (g .1)) k j s (seal-used article (k .n) (k .words) (j .words) (s .1) (16 * k .n) (g .0) (g .1)),
+      )) k j s
+
+  pub opens-used : {g g′ : List ℕ × List ℕ × List ℕ} {y z : ℕ} {e f : List ℕ} → g ≡ g′ → OpensCbc k (g .0) (g .1) y (g .2) e → OpensCbc j (g′ .0) (g′ .1) z (g′ .2) f
+      → (y ≡ z) × (e ≡ f)
+  opens-used =
+      two-calls (λ k g. cbcRefusal (k .n) (length (g .0)) (length (g .1)) (length (g .2))) (λ k g. cbcOpen (U article (k .n) (k .words)) (16 * k .n) (g .0) (g .1)) (λ g. g .2)
+      (λ k j s g. (
+        ap (λ (n : ℕ). cbcRefusal n (length (g .0)) (length (g .1)) (length (g .2))) (s .0),
+        map-used (λ n ws. cbcOpen (U article n ws) (16 * n) (g .0) (g .1)) k j s (open-used article (k .n) (k .words) (j .words) (s .1) (16 * k .n) (g .0) (g .1)),
+      )) k j s
+
+  pub runs-used : {g g′ : List ℕ × ℕ × List ℕ × List ℕ} {y z : ℕ} {e f : List ℕ} → g ≡ g′ → RunsCtr k (g .0) (g .1) (g .2) y (g .3) e
+      → RunsCtr j (g′ .0) (g′ .1) (g′ .2) z (g′ .3) f → (y ≡ z) × (e ≡ f)
+  runs-used =
+      two-calls (λ k g. ctrRefusal (k .n) (length (g .0)) (length (g .2)) (length (g .3))) (λ k g. ctr (E article (k .n) (k .words)) (16 * k .n) (g .0) (g .1) (g .2)) (λ g. g .3)
+      (λ k j s g. (
+        ap (λ (n : ℕ). ctrRefusal n (length (g .0)) (length (g .2)) (length (g .3))) (s .0),
+        map-used (λ n ws. ctr (E article n ws) (16 * n) (g .0) (g .1) (g .2)) k j s (ctr-used article (k .n) (k .words) (j .words) (s .1) (16 * k .n) (g .0) (g .1) (g .2)),
+      )) k j s
+
+-- the tape
+alike : (t u : Tape) → AlikeStates t u → Alike t u
+alike t u h = record { n = h .0 .0; words = h .0 .1; keyed = h .1; ended = h .2 }
+
+pub steps-alike : (t u : Tape) {g g′ : List ℕ × List ℕ} {y z : Stepped} {e f : List ℕ} → AlikeStates t u → g ≡ g′ → Steps t (g .0) y (g .1) e → Steps u (g′ .0) z (g′ .1) f
+    → AlikeAnswers y z × (e ≡ f)
+steps-alike t u {g} {g′} {y} {z} {e} {f} h p a b =
+    let s = step-used t u (alike t u h) (g .0) (length (g .1)) in
+    let c : Steps u (g .0) z (g .1) f = subst (λ (x : List ℕ × List ℕ). Steps u (x .0) z (x .1) f) (sym p) b in
+    let same : AlikeAnswers (tape.returned (step t (g .0) (length (g .1)))) (tape.returned (step u (g .0) (length (g .1))))
+    = (s .number, s .taken, ap length (s .written), ((s .next .n, s .next .words), s .next .keyed, s .next .ended)) in (
+      subst (λ (x : Stepped). AlikeAnswers x z) (sym (a .0)) (subst (AlikeAnswers (tape.returned (step t (g .0) (length (g .1))))) (sym (c .0)) same),
+      a .1 ∙ ap (λ (x : List ℕ). over x (g .1)) (s .written) ∙ sym (c .1),
+    )
+
+pub tapes-of-used-words : TapesOfUsedWords
+tapes-of-used-words k t u rest h = steps-used k t u rest (alike t u h)
 
 -- ---- demand 3
 
@@ -47,10 +195,20 @@ pub e-and-u-undo : EAndUUndo
 e-and-u-undo n ws b w l h = (U-E article article-sound n ws b w l h, E-U article article-sound n ws b w l h)
 
 pub cbc-opens-again : CbcOpensAgain
-cbc-opens-again n ws start p sealed opened w hs hp taken again = cbc-again article n ws start p sealed article-sound w hs hp refl taken
+cbc-opens-again n ws start p sealed w hs hp taken =
+    cbc-again article n ws start p sealed article-sound w hs hp refl (cbc-iff n (length start) (length p) sealed .1 (unless-four taken .0 refl))
 
 pub ctr-opens-again : CtrOpensAgain
-ctr-opens-again n ws start q p sealed opened taken again = ctr-again article n ws start p sealed q refl taken
+ctr-opens-again n ws start q p sealed taken =
+    ctr-again article n ws start p sealed q refl (ctr-iff n (length start) (length p) sealed .1 (unless-three taken .0 refl))
+
+pub cbc-calls-open : CbcCallsOpen
+cbc-calls-open k start source before sealed old opened w hs hp h g =
+    g .1 ∙ ap (cbcOpen (U article (k .n) (k .words)) (16 * k .n) start) (h .1) ∙ cbc-again article (k .n) (k .words) start source (length before) article-sound w hs hp (h .0) refl
+
+pub ctr-calls-open : CtrCallsOpen
+ctr-calls-open k start q source before sealed old opened h g =
+    g .1 ∙ ap (ctr (E article (k .n) (k .words)) (16 * k .n) start q) (h .1) ∙ ctr-again article (k .n) (k .words) start source (length before) q (h .0) refl
 
 pub mixing-of-xor : MixingOfXor
 mixing-of-xor = mix-xor row

@@ -1,7 +1,7 @@
 -- The operations do what the demands and the change requests say: what the contract of each tells its caller, for all arguments, is the statement; and each function
 -- meets its contract.
 -- Assumes nothing.
-use mathlib.Core.Path.{sym, ap, _∙_}
+use mathlib.Core.Path.{_≡_, refl, sym, ap, _∙_}
 use mathlib.Core.List.{List}
 use Prim.Native.Nat.{ℕ}
 use contract.Lifetimes.{Lfts}
@@ -11,9 +11,14 @@ use Rattle.field.specs.Merged.{lookup}
 use Rattle.rows.proofs.Rows.{published-mixed}
 use Rattle.modes.specs.Refusals.{cbcRefusal, ctrRefusal, cmacRefusal}
 use Rattle.cmac.specs.declared.Verified.{Verified}
-use Rattle.promise.specs.Demands.{Steps, WorksTape, Expands, Enciphers, Deciphers, SealsCbc, OpensCbc, RunsCtr, ComesBack}
-use Rattle.promise.specs.Requests.{MakesTag, VerifiesTag, GetsYes, Multiplies, MixesBy, MixesAsBefore, MakesTable, MakesTheTableLent, LooksUp, FindsMixed, MultipliesRows, Inverts, ConvertsWord, Judges}
-use Rattle.promise.proofs.Requests.{looks-up, published-table}
+use Rattle.labyrinth.specs.declared.WorkingKey.{WorkingKey}
+use Rattle.labyrinth.specs.Cipher.{article}
+use Rattle.labyrinth.specs.Keys.{E, U}
+use Rattle.rows.specs.Inverse.{Row}
+use Rattle.promise.specs.Demands.{Bytes, Words, AnswersKey, AnswersBlock, AnswersCbc, AnswersCtr, AnswersStep, AnswersTape, Steps, WorksTape, Expands, Enciphers, Deciphers, SealsCbc, OpensCbc, RunsCtr, UnusedWordsZero, OfUsedWords, StepsOfUsedWords, ComesBack}
+use Rattle.promise.specs.Requests.{MakesTag, VerifiesTag, AnswersTag, AnswersVerifying, YesExactly, GetsYes, TellsItsEnd, Multiplies, MixesBy, AnswersMixing, MixesAsBefore, MakesTable, AnswersTable, MakesTheTableLent, LooksUp, FindsMixed, MultipliesRows, Inverts, AnswersInverse, ConvertsWord, Judges}
+use Rattle.promise.proofs.Demands.{answers-key, answers-block, seals-answers, opens-answers, ctr-answers, answers-step, answers-tape, unused-words-zero, enciphers-used, deciphers-used, seals-used, opens-used, runs-used, steps-alike, cbc-calls-open, ctr-calls-open}
+use Rattle.promise.proofs.Requests.{answers-tag, answers-verifying, yes-exactly, tags-used, verifies-used, tells-its-end, answers-mixing, answers-table, one-inverse, looks-up, published-table}
 use Rattle.tape.proofs.step as tape-step
 use Rattle.tape_run.proofs.run as tape-run
 use Rattle.expansion.proofs.expand as expand
@@ -39,13 +44,23 @@ use Rattle.mixing.proofs.look_up as look-up
 use Rattle.tables.proofs.merged_table as merged-table
 use Rattle.arithmetic.proofs.times as times
 
--- ---- demand 2
+-- Of each: what it gives (demand 2), its number in plain terms and what a refusal returns and leaves (demand 1), and that it depends on the used words
+-- of the key only (document 01).
+
+-- ---- expansion
 
 module _ (κs : Lfts 1) where
   pub expands : (a : _) (z : _) (e : _) → expand.Reads.Learnt κs a z e → Expands (a .0) (a .1 .0) (a .1 .1 .0 .now) z
   expands a z e h = h
 
--- and, of demand 3, by matrix and by merged table
+  pub expand-answers : (a : _) (z : _) (e : _) → expand.Reads.Learnt κs a z e → AnswersKey (a .0) (a .1 .0) (a .1 .1 .0 .now) z
+  expand-answers a z e h = answers-key (a .0) (a .1 .0) (a .1 .1 .0 .now) h
+
+  pub expand-unused-zero : (a : _) (z : _) (e : _) → expand.Reads.Learnt κs a z e → UnusedWordsZero z
+  expand-unused-zero a z e h = unused-words-zero (a .0) (a .1 .0) (a .1 .1 .0 .now) h
+
+-- ---- blocks: of demand 3, by matrix and by merged table
+
 module _ (κs : Lfts 2) where
   pub enciphers-by-table : (a : _) (z : _) (e : _) → encipher-by-table.Reads.Learnt κs a z e
       → Enciphers (a .0) (a .1 .0 .now) z (a .1 .1 .0 .now) (e .1 .1 .0 .now)
@@ -63,6 +78,36 @@ module _ (κs : Lfts 2) where
       → Deciphers (a .0) (a .1 .0 .now) z (a .1 .1 .0 .now) (e .1 .1 .0 .now)
   deciphers-by-matrix a z e h = h
 
+  pub encipher-by-table-answers : (a : _) (z : _) (e : _) → encipher-by-table.Reads.Learnt κs a z e
+      → AnswersBlock (a .0) (a .1 .0 .now) z (a .1 .1 .0 .now) (e .1 .1 .0 .now)
+  encipher-by-table-answers a z e h = answers-block (E article (a .0 .n) (a .0 .words)) (a .0) (a .1 .0 .now) h
+
+  pub decipher-by-table-answers : (a : _) (z : _) (e : _) → decipher-by-table.Reads.Learnt κs a z e
+      → AnswersBlock (a .0) (a .1 .0 .now) z (a .1 .1 .0 .now) (e .1 .1 .0 .now)
+  decipher-by-table-answers a z e h = answers-block (U article (a .0 .n) (a .0 .words)) (a .0) (a .1 .0 .now) h
+
+  pub encipher-by-matrix-answers : (a : _) (z : _) (e : _) → encipher-by-matrix.Reads.Learnt κs a z e
+      → AnswersBlock (a .0) (a .1 .0 .now) z (a .1 .1 .0 .now) (e .1 .1 .0 .now)
+  encipher-by-matrix-answers a z e h = answers-block (E article (a .0 .n) (a .0 .words)) (a .0) (a .1 .0 .now) h
+
+  pub decipher-by-matrix-answers : (a : _) (z : _) (e : _) → decipher-by-matrix.Reads.Learnt κs a z e
+      → AnswersBlock (a .0) (a .1 .0 .now) z (a .1 .1 .0 .now) (e .1 .1 .0 .now)
+  decipher-by-matrix-answers a z e h = answers-block (U article (a .0 .n) (a .0 .words)) (a .0) (a .1 .0 .now) h
+
+  pub encipher-by-table-used : OfUsedWords {G = List ℕ × List ℕ} (encipher-by-table.Reads.Learnt κs) (λ a. a .0) (λ a. (a .1 .0 .now, a .1 .1 .0 .now)) (λ e. e .1 .1 .0 .now)
+  encipher-by-table-used a b y z e f h g s p = enciphers-used (a .0) (b .0) s p h g
+
+  pub decipher-by-table-used : OfUsedWords {G = List ℕ × List ℕ} (decipher-by-table.Reads.Learnt κs) (λ a. a .0) (λ a. (a .1 .0 .now, a .1 .1 .0 .now)) (λ e. e .1 .1 .0 .now)
+  decipher-by-table-used a b y z e f h g s p = deciphers-used (a .0) (b .0) s p h g
+
+  pub encipher-by-matrix-used : OfUsedWords {G = List ℕ × List ℕ} (encipher-by-matrix.Reads.Learnt κs) (λ a. a .0) (λ a. (a .1 .0 .now, a .1 .1 .0 .now)) (λ e. e .1 .1 .0 .now)
+  encipher-by-matrix-used a b y z e f h g s p = enciphers-used (a .0) (b .0) s p h g
+
+  pub decipher-by-matrix-used : OfUsedWords {G = List ℕ × List ℕ} (decipher-by-matrix.Reads.Learnt κs) (λ a. a .0) (λ a. (a .1 .0 .now, a .1 .1 .0 .now)) (λ e. e .1 .1 .0 .now)
+  decipher-by-matrix-used a b y z e f h g s p = deciphers-used (a .0) (b .0) s p h g
+
+-- ---- runs
+
 module _ (κs : Lfts 3) where
   pub seals-cbc : (a : _) (z : _) (e : _) → seal.Reads.Learnt κs a z e
       → SealsCbc (a .0) (a .1 .0 .now) (a .1 .1 .0 .now) z (a .1 .1 .1 .0 .now) (e .1 .1 .1 .0 .now)
@@ -76,15 +121,72 @@ module _ (κs : Lfts 3) where
       → RunsCtr (a .0) (a .1 .0 .now) (a .1 .1 .0) (a .1 .1 .1 .0 .now) z (a .1 .1 .1 .1 .0 .now) (e .1 .1 .1 .1 .0 .now)
   runs-ctr a z e h = h
 
--- the tape
+  pub cbc-seal-answers : (a : _) (z : _) (e : _) → seal.Reads.Learnt κs a z e
+      → AnswersCbc (a .0) (a .1 .0 .now) (a .1 .1 .0 .now) z (a .1 .1 .1 .0 .now) (e .1 .1 .1 .0 .now)
+  cbc-seal-answers a z e h = seals-answers (a .0) (a .1 .0 .now) (a .1 .1 .0 .now) h
+
+  pub cbc-open-answers : (a : _) (z : _) (e : _) → cbc-open.Reads.Learnt κs a z e
+      → AnswersCbc (a .0) (a .1 .0 .now) (a .1 .1 .0 .now) z (a .1 .1 .1 .0 .now) (e .1 .1 .1 .0 .now)
+  cbc-open-answers a z e h = opens-answers (a .0) (a .1 .0 .now) (a .1 .1 .0 .now) h
+
+  pub ctr-run-answers : (a : _) (z : _) (e : _) → run.Reads.Learnt κs a z e
+      → AnswersCtr (a .0) (a .1 .0 .now) (a .1 .1 .1 .0 .now) z (a .1 .1 .1 .1 .0 .now) (e .1 .1 .1 .1 .0 .now)
+  ctr-run-answers a z e h = ctr-answers (a .0) (a .1 .0 .now) (a .1 .1 .1 .0 .now) (a .1 .1 .0) h
+
+  pub cbc-seal-used : OfUsedWords {G = List ℕ × List ℕ × List ℕ} (seal.Reads.Learnt κs) (λ a. a .0) (λ a. (a .1 .0 .now, a .1 .1 .0 .now, a .1 .1 .1 .0 .now)) (λ e. e .1 .1 .1 .0 .now)
+  cbc-seal-used a b y z e f h g s p = seals-used (a .0) (b .0) s p h g
+
+  pub cbc-open-used : OfUsedWords {G = List ℕ × List ℕ × List ℕ} (cbc-open.Reads.Learnt κs) (λ a. a .0) (λ a. (a .1 .0 .now, a .1 .1 .0 .now, a .1 .1 .1 .0 .now)) (λ e. e .1 .1 .1 .0 .now)
+  cbc-open-used a b y z e f h g s p = opens-used (a .0) (b .0) s p h g
+
+  pub ctr-run-used : OfUsedWords {G = List ℕ × ℕ × List ℕ × List ℕ} (run.Reads.Learnt κs) (λ a. a .0) (λ a. (a .1 .0 .now, a .1 .1 .0, a .1 .1 .1 .0 .now, a .1 .1 .1 .1 .0 .now)) (λ e. e .1 .1 .1 .1 .0 .now)
+  ctr-run-used a b y z e f h g s p = runs-used (a .0) (b .0) s p h g
+
+  -- of demand 3: a sealing call, and an opening call on what it left, both taken. The second has the first's key, start block and offset
+  pub cbc-opened : (a : _) (e : _) → seal.Reads.Learnt κs a 0 e → (κs′ : Lfts 3) (b : _) (f : _) → cbc-open.Reads.Learnt κs′ b 0 f
+      → b .0 ≡ a .0 → b .1 .0 .now ≡ a .1 .0 .now → b .1 .1 .0 .now ≡ e .1 .1 .1 .0 .now → Words (a .0 .words) → Bytes (a .1 .0 .now) → Bytes (a .1 .1 .0 .now)
+      → f .1 .1 .1 .0 .now ≡ a .1 .1 .0 .now
+  cbc-opened a e h κs′ b f g k s d w hs hp =
+      cbc-calls-open (a .0) (a .1 .0 .now) (a .1 .1 .0 .now) (a .1 .1 .1 .0 .now) (e .1 .1 .1 .0 .now) (b .1 .1 .1 .0 .now) (f .1 .1 .1 .0 .now) w hs hp h
+      (opened (b .1 .1 .1 .0 .now) k s d g)
+    where
+      opened : (old : List ℕ) {k j : WorkingKey} {start start′ source source′ new : List ℕ} → j ≡ k → start′ ≡ start → source′ ≡ source → OpensCbc j start′ source′ 0 old new
+          → OpensCbc k start source 0 old new
+      opened old p q r g = rw (sym p, sym q, sym r) g
+
+  pub ctr-opened : (a : _) (e : _) → run.Reads.Learnt κs a 0 e → (κs′ : Lfts 3) (b : _) (f : _) → run.Reads.Learnt κs′ b 0 f
+      → b .0 ≡ a .0 → b .1 .0 .now ≡ a .1 .0 .now → b .1 .1 .0 ≡ a .1 .1 .0 → b .1 .1 .1 .0 .now ≡ e .1 .1 .1 .1 .0 .now
+      → f .1 .1 .1 .1 .0 .now ≡ a .1 .1 .1 .0 .now
+  ctr-opened a e h κs′ b f g k s o d =
+      ctr-calls-open (a .0) (a .1 .0 .now) (a .1 .1 .0) (a .1 .1 .1 .0 .now) (a .1 .1 .1 .1 .0 .now) (e .1 .1 .1 .1 .0 .now) (b .1 .1 .1 .1 .0 .now) (f .1 .1 .1 .1 .0 .now) h
+      (opened (b .1 .1 .1 .1 .0 .now) k s o d g)
+    where
+      opened : (old : List ℕ) {k j : WorkingKey} {start start′ source source′ new : List ℕ} {q q′ : ℕ} → j ≡ k → start′ ≡ start → q′ ≡ q → source′ ≡ source
+          → RunsCtr j start′ q′ source′ 0 old new → RunsCtr k start q source 0 old new
+      opened old p q o r g = rw (sym p, sym q, sym o, sym r) g
+
+-- ---- the tape
+
 module _ (κs : Lfts 2) where
   pub steps : (a : _) (z : _) (e : _) → tape-step.Reads.Learnt κs a z e → Steps (a .0) (a .1 .0 .now) z (a .1 .1 .0 .now) (e .1 .1 .0 .now)
   steps a z e h = h
 
+  pub step-answers : (a : _) (z : _) (e : _) → tape-step.Reads.Learnt κs a z e → AnswersStep (a .0) (a .1 .0 .now) z (a .1 .1 .0 .now) (e .1 .1 .0 .now)
+  step-answers a z e h = answers-step (a .0) (a .1 .0 .now) h
+
+  pub step-used : StepsOfUsedWords {G = List ℕ × List ℕ} (tape-step.Reads.Learnt κs) (λ a. a .0) (λ a. (a .1 .0 .now, a .1 .1 .0 .now)) (λ e. e .1 .1 .0 .now)
+  step-used a b y z e f h g s p = steps-alike (a .0) (b .0) s p h g
+
   pub works-tape : (a : _) (z : _) (e : _) → tape-run.Reads.Learnt κs a z e → WorksTape (a .0 .now) z (a .1 .0 .now) (e .1 .0 .now)
   works-tape a z e h = h
 
--- ---- demand 3: the round trips of the operations; mixing is below, with the row that it takes since Job 4
+  pub tape-answers : (a : _) (z : _) (e : _) → tape-run.Reads.Learnt κs a z e → AnswersTape (a .0 .now) z (a .1 .0 .now) (e .1 .0 .now)
+  tape-answers a z e h = answers-tape (a .0 .now) h
+
+  pub tape-tells-its-end : (a : _) (z : _) (e : _) → tape-run.Reads.Learnt κs a z e → TellsItsEnd (a .0 .now) z (e .1 .0 .now)
+  tape-tells-its-end a z e h = tells-its-end (a .0 .now) (a .1 .0 .now) h
+
+-- ---- demand 3: functions that make both calls of a round trip; mixing is below, with the row that it takes since Job 4
 
 module _ (κs : Lfts 4) where
   pub cbc-comes-back : (a : _) (z : _) (e : _) → cbc-there-and-back.Reads.Learnt κs a z e
@@ -112,6 +214,22 @@ module _ (κs : Lfts 2) where
   pub verifies-tag : (a : _) (z : _) (e : _) → verify.Reads.Learnt κs a z e → VerifiesTag (a .0) (a .1 .0 .now) (a .1 .1 .0 .now) z
   verifies-tag a z e h = h
 
+  pub make-answers : (a : _) (z : _) (e : _) → make.Reads.Learnt κs a z e → AnswersTag (a .0) z (a .1 .1 .0 .now) (e .1 .1 .0 .now)
+  make-answers a z e h = answers-tag (a .0) (a .1 .0 .now) h
+
+  pub verify-answers : (a : _) (z : _) (e : _) → verify.Reads.Learnt κs a z e → AnswersVerifying (a .0) (a .1 .1 .0 .now) z
+  verify-answers a z e h = answers-verifying (a .0) (a .1 .0 .now) (a .1 .1 .0 .now) h
+
+  pub verify-yes-exactly : (a : _) (z : _) (e : _) → verify.Reads.Learnt κs a z e → YesExactly (a .0) (a .1 .0 .now) (a .1 .1 .0 .now) z
+  verify-yes-exactly a z e h = yes-exactly (a .0) (a .1 .0 .now) (a .1 .1 .0 .now) h
+
+  pub make-used : OfUsedWords {G = List ℕ × List ℕ} (make.Reads.Learnt κs) (λ a. a .0) (λ a. (a .1 .0 .now, a .1 .1 .0 .now)) (λ e. e .1 .1 .0 .now)
+  make-used a b y z e f h g s p = tags-used (a .0) (b .0) s p h g
+
+  -- nothing is lent to be written
+  pub verify-used : OfUsedWords {G = List ℕ × List ℕ} {L = ℕ} (verify.Reads.Learnt κs) (λ a. a .0) (λ a. (a .1 .0 .now, a .1 .1 .0 .now)) (λ e. 0)
+  verify-used a b y z e f h g s p = (verifies-used (a .0) (b .0) s p h g, refl)
+
   pub gets-yes : (a : _) (z : _) (e : _) → tag-made-and-verified.Reads.Learnt κs a z e → GetsYes (cmacRefusal (a .0 .n) (length (a .1 .1 .0 .now))) z
   gets-yes a z e h =
       let r = cmacRefusal (a .0 .n) (length (a .1 .1 .0 .now)) in (
@@ -131,12 +249,18 @@ module _ (κs : Lfts 0) where
   pub mixes-by : (a : _) (z : _) (e : _) → mix-word.Reads.Learnt κs a z e → MixesBy (a .0) (a .1 .0) z
   mixes-by a z e h = h
 
+  pub mix-answers : (a : _) (z : _) (e : _) → mix-word.Reads.Learnt κs a z e → AnswersMixing (a .0) (a .1 .0) z
+  mix-answers a z e h = answers-mixing (a .0) (a .1 .0) h
+
   pub mixes-as-before : (a : _) (z : _) (e : _) → mix-word.Reads.Learnt κs a z e → MixesAsBefore (a .0) (a .1 .0) z
   mixes-as-before a z e h r = published-mixed (a .1 .0) r h
 
 module _ (κs : Lfts 1) where
   pub makes-table : (a : _) (z : _) (e : _) → make-table.Reads.Learnt κs a z e → MakesTable (a .0) z (a .1 .0 .now) (e .1 .0 .now)
   makes-table a z e h = h
+
+  pub table-answers : (a : _) (z : _) (e : _) → make-table.Reads.Learnt κs a z e → AnswersTable (a .0) z (a .1 .0 .now) (e .1 .0 .now)
+  table-answers a z e h = answers-table (a .0) h
 
   pub table-looks-up : (a : _) (z : _) (e : _) → make-table.Reads.Learnt κs a z e → LooksUp (a .0) z (e .1 .0 .now)
   table-looks-up a z e h = looks-up (a .0) (a .1 .0 .now) (e .1 .0 .now) h
@@ -159,6 +283,9 @@ module _ (κs : Lfts 0) where
 
   pub inverts : (a : _) (z : _) (e : _) → inverse-of-row.Reads.Learnt κs a z e → Inverts (a .0) z
   inverts a z e h = h
+
+  pub inverse-answers : (a : _) (z : _) (e : _) → inverse-of-row.Reads.Learnt κs a z e → Row (a .0) → AnswersInverse (a .0) z
+  inverse-answers a z e h r = one-inverse (a .0) z r h
 
   pub converts-word : (a : _) (z : _) (e : _) → word-converted.Reads.Learnt κs a z e → ConvertsWord (a .0) (a .1 .0) (a .1 .1 .0) z
   converts-word a z e h = h

@@ -1,17 +1,19 @@
 -- What the change requests ask for holds.
 -- Assumes nothing.
-use mathlib.Core.Path.{_≡_, refl, sym, ap, _∙_, fun-ext}
+use mathlib.Core.Path.{_≡_, refl, sym, ap, ap₂, _∙_, fun-ext}
 use mathlib.Core.Bool.{Bool, true, false, false≢true}
-use mathlib.Core.Logic.{_⊎_, inl, inr, ⊎-elim, ⊎-map, _↔_}
+use mathlib.Core.Logic.{_⊎_, inl, inr, ⊎-map, _↔_}
 use mathlib.Core.List.{List, [], _∷_}
-use Prim.Native.Nat.{ℕ, zero, suc, _≤_, _<_}
+use Prim.Native.Nat.{ℕ, zero, suc, _-_, _≤_, _<_}
 use native.Mathlib.Omega.{arith}
-use borrow.Author.Tests.{leb-true, leb-false, eqb-true, eqb-false}
+use borrow.Author.Tests.{eqb-true, eqb-false}
 use lib.Dec.{eqb, leb, leb→le}
-use lib.ListN.{length, getD, take, replicate}
-use Rattle.forms.specs.Lists.{tabulate, xorSum, iterate}
+use lib.ListN.{length, getD, take, drop, replicate}
+use lib.Seq.{take-append-seam}
+use Rattle.forms.specs.Lists.{tabulate, xorSum, iterate, over}
 use Rattle.forms.specs.Words.{byte, join, eachByte, words, bytes}
 use Rattle.forms.specs.Refusals.{outcome, firstOf}
+use Rattle.forms.proofs.Refusals.{unless-three}
 use Rattle.forms.proofs.Tests.{tested-at}
 use Rattle.forms.proofs.Xor.{additive-zero}
 use Rattle.forms.proofs.Twice.{first-passed}
@@ -34,28 +36,36 @@ use Rattle.rows.proofs.Ring.{product-comm, product-assoc, mix-order, mix-neutra
 use Rattle.rows.proofs.Inverses.{inverse-row, product-inverse, only-inverse, no-inverse, mix-back, mix-forth, neutral-accepted, inverse-accepted, product-accepted, product-left, product-right, inverted-done, inverted-refused, published-inverse}
 use Rattle.judge.proofs.Verdicts.{one-verdict, zero-row-short, neutral-short, good-accepted, nine-at-most}
 use Rattle.labyrinth.specs.Blocks.{each}
+use Rattle.labyrinth.specs.declared.WorkingKey.{WorkingKey}
 use Rattle.labyrinth.specs.Cipher.{article}
 use Rattle.labyrinth.specs.Keys.{E}
 use Rattle.labyrinth.specs.Refusals.{legal, legalLength}
-use Rattle.labyrinth.proofs.Refusals.{legal-iff}
 use Rattle.labyrinth.proofs.Agree.{E-used}
 use Rattle.modes.specs.Cmac.{K1, K2, tag}
 use Rattle.modes.specs.Refusals.{cmacRefusal}
 use Rattle.modes.proofs.Maps.{keeps-one}
 use Rattle.modes.proofs.Cmac.{length-doubled, bytes-doubled, valid-iff}
 use Rattle.modes.proofs.Doubling.{doubled-remainder, only-remainder}
-use Rattle.modes.proofs.Refusals.{cmac-iff, cmac-taken, cmac-large, cmac-short, cmac-long}
+use Rattle.modes.proofs.Refusals.{cmac-number, cmac-taken}
 use Rattle.modes.proofs.Used.{tag-used}
+use Rattle.cmac.specs.declared.Verified.{Verified}
 use Rattle.cmac.specs.Verification.{verification}
 use Rattle.round_trips.proofs.Rows.{converted}
 use Rattle.operands.specs.Operands.{zeros}
-use Rattle.tape_rules.specs.Steps.{keyRefusal, setKey, mapRefusal, mapBlock, mixWord, command, step}
+use Rattle.tape_rules.specs.declared.Stepped.{Stepped}
+use Rattle.tape_rules.specs.Steps.{Answer, keyRefusal, setKey, mapRefusal, mapBlock, mixWord, command, step}
+use Rattle.tape_rules.specs.Steps as tape
+use Rattle.tape_rules.specs.Plain.{UnknownCommand}
 use Rattle.tape_rules.proofs.Cases.{step-room, step-ended, step-empty}
 use Rattle.tape_rules.proofs.Accepted.{Closed}
-use Rattle.tape_run.specs.Runs.{steps, tapeSteps, joined, tapeAnswers, lastRest, Ran}
-use Rattle.tape_run.proofs.Runs.{run-whole}
-use Rattle.tape_run.proofs.Endings.{last-eight, eight-trails, eight-once, copy-whole, copy-short}
-use Rattle.promise.specs.Requests.{MasksDoubled, OneRemainder, YesExactly, TagsOfUsedWords, TagNumber, TagNumbers, EmptyRest, EndedState, FiveFirst, ExampleKept, EmptyTape, UnknownCommand, EightTells, OneEight, NothingLost, ShortTold, ShortCoefficients, EndsAfterHighestOne, TurnsNamed, MakesTable, MakesTheTableLent, by, EightTimesByRow, PublishedPower, XorByRow, RotatedByRow, LooksUp, RowNumber, RowNumbers, TableNumber, TableNumbers, OneAfterAnother, OneAnswerAfterAnother, AcceptedTogether, OrderFree, InverseNumber, InverseNumbers, PublishedInverse, GroupingFree, ChangesNoWord, ChangesNoRow, WordBack, Converts, OneVerdict, ZeroRowShort, NeutralShort, GoodAccepted, NineAtMost}
+use Rattle.tape_run.specs.declared.Answered.{Answered}
+use Rattle.tape_run.specs.Runs.{steps, tapeSteps, joined, tapeAnswers, lastRest, Ran, run}
+use Rattle.tape_run.specs.Runs as tape-run
+use Rattle.tape_run.proofs.Runs.{run-iff, run-whole}
+use Rattle.tape_run.proofs.Endings.{last-eight, Begun, last-well, eight-trails, eight-once, copy-whole, copy-short}
+use Rattle.promise.specs.Demands.{SameUsed, WorksTape}
+use Rattle.promise.specs.Requests.{MasksDoubled, OneRemainder, MakesTag, VerifiesTag, YesExactly, TagsTaken, AnswersTag, AnswersVerifying, EmptyRest, EndedState, FiveFirst, example, Gets, ExampleKept, EmptyTape, TellsItsEnd, OneEight, NothingLost, ShortTold, ShortCoefficients, EndsAfterHighestOne, TurnsNamed, MakesTable, MakesTheTableLent, by, EightTimesByRow, PublishedPower, XorByRow, RotatedByRow, LooksUp, MixesBy, AnswersMixing, TableNumber, AnswersTable, OneAfterAnother, OneAnswerAfterAnother, AcceptedTogether, OrderFree, AnswersInverse, OneInverse, PublishedInverse, GroupingFree, ChangesNoWord, ChangesNoRow, WordBack, Converts, OneVerdict, ZeroRowShort, NeutralShort, GoodAccepted, NineAtMost}
+use Rattle.promise.proofs.Demands.{kept, two-calls, map-used}
 
 -- ---- Job 1
 
@@ -70,62 +80,92 @@ masks-doubled ws =
 pub one-remainder : OneRemainder
 one-remainder = only-remainder
 
-pub yes-exactly : YesExactly
+-- verifying answers the number that it was given, and a no with every refusal
+module _ (e : List ℕ → List ℕ) (message given : List ℕ) where
+  verified-number : (r : ℕ) → verification e message given r .number ≡ r
+  unfolding verification
+  verified-number zero = refl
+  verified-number (suc r) = refl
+
+  verified-no : (r : ℕ) → (r ≡ 0 → ⊥) → verification e message given r .yes ≡ false
+  unfolding verification
+  verified-no zero h = absurd (h refl)
+  verified-no (suc r) h = refl
+
+pub yes-exactly : (k : WorkingKey) (message given : List ℕ) {answer : Verified} → VerifiesTag k message given answer → YesExactly k message given answer
 unfolding verification
-yes-exactly n ws message given = go (cmacRefusal n (length given)) refl
+yes-exactly k message given h = rw h (by-number (cmacRefusal (k .n) (length given)) refl)
   where
     e : List ℕ → List ℕ
-    e = E article n ws
+    e = E article (k .n) (k .words)
 
-    go : (r : ℕ) → cmacRefusal n (length given) ≡ r → (verification e message given r .yes ≡ true) ↔ ((r ≡ 0) × (given ≡ tag e (length given) message))
-    go zero p =
-        let t = cmac-taken n (length given) refl p in
-        let v = valid-iff e (keeps-one article n ws (t .one)) message given (t .top) in
+    by-number : (r : ℕ) → cmacRefusal (k .n) (length given) ≡ r
+        → (verification e message given r .yes ≡ true) ↔ ((verification e message given r .number ≡ 0) × (given ≡ tag e (length given) message))
+    by-number zero p =
+        let t = cmac-taken (k .n) (length given) refl p in
+        let v = valid-iff e (keeps-one article (k .n) (k .words) (t .one)) message given (t .top) in
         (λ y. (refl, v .0 y), λ h. v .1 (h .1))
-    go (suc r) p = (λ y. absurd (false≢true y), λ h. let f : ⊥ = omega (arith, h .0) in absurd f)
+    by-number (suc r) p = (λ y. absurd (false≢true y), λ h. let f : ⊥ = omega (arith, h .0) in absurd f)
 
-pub tags-of-used-words : TagsOfUsedWords
-tags-of-used-words n ws vs h message given size number = (
-  tag-used article n ws vs h size message,
-  ap (λ (e : List ℕ → List ℕ). verification e message given number) (fun-ext (E-used article n ws vs h)),
-)
+pub tags-taken : TagsTaken
+tags-taken n size number u =
+    let all = unless-three u in
+    (λ z. let h = all .0 z in (h .1, h .2 .0, h .2 .1), λ h. all .1 (inl (h .0), h .0, (h .1, h .2)))
 
-pub tag-numbers : TagNumbers
-unfolding cmacRefusal
-tag-numbers n t = legal-or-not (legal n) refl
-  where
-    large : legal n ≡ true → ((n ≡ 2) ⊎ (n ≡ 4)) → TagNumber n t (cmacRefusal n t)
-    large l h = inr (inl (sym (cmac-large n t l (λ e. ⊎-elim (λ (p : n ≡ 2). omega arith) (λ (p : n ≡ 4). omega arith) h)), h))
+pub answers-tag : (k : WorkingKey) (message : List ℕ) {number : ℕ} {before after : List ℕ} → MakesTag k message number before after → AnswersTag k number before after
+answers-tag k message {number} {before} h = (cmac-number (k .n) (length before) (h .0), kept number (tag (E article (k .n) (k .words)) (length before) message) before (h .1))
 
-    one : n ≡ 1 → (low high : Bool) → leb 8 t ≡ low → leb t 16 ≡ high → TagNumber n t (cmacRefusal n t)
-    one e false high p q = let h = leb-false 8 t p in inr (inr (inl (sym (cmac-short n t e h), e, inl h)))
-    one e true false p q = let h = leb-false t 16 q in inr (inr (inl (sym (cmac-long n t e h), e, inr h)))
-    one e true true p q =
-        let h : (n ≡ 1) × (8 ≤ t) × (t ≤ 16) = (e, leb-true 8 t p, leb-true t 16 q) in
-        inr (inr (inr (cmac-iff n t .1 h, e, h .1, h .2)))
+pub answers-verifying : (k : WorkingKey) (message given : List ℕ) {answer : Verified} → VerifiesTag k message given answer → AnswersVerifying k given answer
+answers-verifying k message given {answer} h =
+    let e = E article (k .n) (k .words) in
+    let r = cmacRefusal (k .n) (length given) in
+    let p : answer .number ≡ r = ap (λ (v : Verified). v .number) h ∙ verified-number e message given r in
+    (cmac-number (k .n) (length given) p, λ z. ap (λ (v : Verified). v .yes) h ∙ verified-no e message given r (λ y. z (p ∙ y)))
 
-    legal-or-not : (b : Bool) → legal n ≡ b → TagNumber n t (cmacRefusal n t)
-    legal-or-not false p = inl (rw p, λ l. false≢true (sym p ∙ legal-iff n .1 l))
-    legal-or-not true p = ⊎-elim (λ (e : n ≡ 1). one e (leb 8 t) (leb t 16) refl refl) (λ (h : (n ≡ 2) ⊎ (n ≡ 4)). large p h) (legal-iff n .0 p)
+-- document 01: later answers depend on the used words only
+module _ (k j : WorkingKey) (s : SameUsed k j) where
+  pub tags-used : {g g′ : List ℕ × List ℕ} {y z : ℕ} {e f : List ℕ} → g ≡ g′ → MakesTag k (g .0) y (g .1) e → MakesTag j (g′ .0) z (g′ .1) f → (y ≡ z) × (e ≡ f)
+  tags-used =
+      two-calls (λ k g. cmacRefusal (k .n) (length (g .1))) (λ k g. tag (E article (k .n) (k .words)) (length (g .1)) (g .0)) (λ g. g .1)
+      (λ k j s g. (
+        ap (λ (n : ℕ). cmacRefusal n (length (g .1))) (s .0),
+        map-used (λ n ws. tag (E article n ws) (length (g .1)) (g .0)) k j s (tag-used article (k .n) (k .words) (j .words) (s .1) (length (g .1)) (g .0)),
+      )) k j s
+
+  pub verifies-used : {g g′ : List ℕ × List ℕ} {y z : Verified} → g ≡ g′ → VerifiesTag k (g .0) (g .1) y → VerifiesTag j (g′ .0) (g′ .1) z → y ≡ z
+  verifies-used {g} p a b =
+      a ∙ ap (λ (e : List ℕ → List ℕ). verification e (g .0) (g .1) (cmacRefusal (k .n) (length (g .1)))) (fun-ext (E-used article (k .n) (k .words) (j .words) (s .1)))
+      ∙ ap (λ (n : ℕ). verification (E article n (j .words)) (g .0) (g .1) (cmacRefusal n (length (g .1)))) (s .0)
+      ∙ ap (λ (x : List ℕ × List ℕ). verification (E article (j .n) (j .words)) (x .0) (x .1) (cmacRefusal (j .n) (length (x .1)))) p ∙ sym b
 
 -- ---- Job 2
 
+-- a step and a run, by what their definitions come to
+step-gives : (before : List ℕ) {a b : Answer} {answer : Stepped} {after : List ℕ} → a ≡ b → (answer ≡ tape.returned a) × (after ≡ over (a .written) before)
+    → (answer ≡ tape.returned b) × (after ≡ over (b .written) before)
+step-gives before e h = (h .0 ∙ ap (λ (a : Answer). tape.returned a) e, h .1 ∙ ap (λ (a : Answer). over (a .written) before) e)
+
 pub empty-rest : EmptyRest
-empty-rest t e = step-empty t [] 65 refl e refl
+empty-rest t answer before after h l e = step-gives before (step-empty t [] (length before) l e refl) h
 
 pub ended-state : EndedState
-ended-state t rest = step-ended t rest 65 refl
+ended-state t rest answer before after h l e = step-gives before (step-ended t rest (length before) l e) h
 
 pub five-first : FiveFirst
-five-first = step-room
+five-first t rest answer before after h l = step-gives before (step-room t rest (length before) l) h
+
+gets : (tape bytes : List ℕ) → length tape ≤ 65536 → tapeAnswers tape ≡ bytes → Gets tape bytes
+gets tape bytes l e answer before after h r =
+    let q = run-whole tape (length before) r l ∙ ap (λ (x : List ℕ). record { number = 0; written = x }) e in
+    (h .0 ∙ ap (λ (x : Ran). tape-run.returned x) q, h .1 ∙ ap (λ (x : Ran). over (x .written) before) q)
 
 pub example-kept : ExampleKept
 unfolding tapeAnswers tapeSteps steps joined step command setKey keyRefusal mapBlock mapRefusal mixWord zeros legal legalLength tabulate xorSum byte join timesX shift mul element matrix dot mixBy mix row each words bytes
-example-kept = refl
+example-kept = gets example _ (omega arith) refl
 
 pub empty-tape : EmptyTape
 unfolding tapeAnswers tapeSteps steps joined step
-empty-tape = refl
+empty-tape = gets [] _ (omega arith) refl
 
 -- the first byte of a rest
 first-of : (rest : List ℕ) {c : ℕ} → take 1 rest ≡ c ∷ [] → (0 < length rest) × (getD rest 0 0 ≡ c)
@@ -150,11 +190,27 @@ closed-by rest = (λ f c e o. f (closed e o), back)
     back : ((c : ℕ) → take 1 rest ≡ c ∷ [] → (c ≡ 0) ⊎ UnknownCommand c → ⊥) → Closed rest → ⊥
     back f c = f (getD rest 0 0) (of-first rest (c .some) refl) (⊎-map (λ z. z) (λ u. (u .not0, u .not1, u .not3, u .not4, u .not5)) (c .by))
 
-pub eight-tells : EightTells
-eight-tells tape h =
-    let l = last-eight tape in
+begun-by : (rest : List ℕ) → Begun rest ↔ (take 1 rest ≡ 0 ∷ [])
+begun-by rest = (λ b. of-first rest (b .some) (b .zero), λ e. let b = first-of rest e in record { some = b .0; zero = b .1 })
+
+pub tells-its-end : (tape before : List ℕ) {answer : Answered} {after : List ℕ} → WorksTape tape answer before after → TellsItsEnd tape answer after
+unfolding tapeAnswers
+tells-its-end tape before {answer} {after} h z =
+    let n : answer .number ≡ run tape (length before) .number = ap (λ (x : Answered). x .number) (h .0) in
+    let t = run-iff tape (length before) .0 (sym n ∙ z) in
+    let q = run-whole tape (length before) (t .0) (t .1) in
+    let m : answer .length ≡ length (tapeAnswers tape) = ap (λ (x : Answered). x .length) (h .0) ∙ ap (λ (x : Ran). length (x .written)) q in
+    let w : take (answer .length) after ≡ tapeAnswers tape
+    = ap₂ take m (h .1 ∙ ap (λ (x : Ran). over (x .written) before) q) ∙ take-append-seam (tapeAnswers tape) _ in
+    let last = last-eight tape in
+    let well = last-well tape in
     let c = closed-by (lastRest tape (tapeSteps tape)) in
-    (ap (λ (r : Ran). r .written) (run-whole tape 65537 refl h), (λ z. c .0 (l .0 z), λ f. l .1 (c .1 f)), eight-trails tape)
+    let b = begun-by (lastRest tape (tapeSteps tape)) in (
+      w,
+      (λ e. well .0 (b .1 e), λ e. b .0 (well .1 e)),
+      (λ e. c .0 (last .0 e), λ f. last .1 (c .1 f)),
+      λ e. ap₂ (λ (i : ℕ) (x : List ℕ). drop (i - 1) x) m w ∙ eight-trails tape e,
+    )
 
 pub one-eight : OneEight
 one-eight = eight-once
@@ -208,10 +264,10 @@ published-table g before after h p r l =
     let e : tableRefusal g (length before) ≡ 0 = ap (λ (x : List ℕ). tableRefusal x (length before)) r ∙ table-iff row (length before) .1 (row-accepted, l) in
     h .1 ∙ ap (λ (n : ℕ). outcome n (merged g table1) before) (h .0 ∙ e) ∙ ap (λ (x : List ℕ). merged x table1) r ∙ sym p
 
-pub row-numbers : RowNumbers
-row-numbers g w = go (eqb (rowSum g) 0) refl
+pub answers-mixing : (g : List ℕ) (w : ℕ) {answer : Mixed} → MixesBy g w answer → AnswersMixing g w answer
+answers-mixing g w h = rw h (go (eqb (rowSum g) 0) refl)
   where
-    go : (b : Bool) → eqb (rowSum g) 0 ≡ b → RowNumber g w (mixed g w (rowRefusal g))
+    go : (b : Bool) → eqb (rowSum g) 0 ≡ b → AnswersMixing g w (mixed g w (rowRefusal g))
     go true p =
         let z : rowSum g ≡ 0 = eqb-true (rowSum g) 0 p in
         let m = mixed-refused g w (rowRefusal g) (λ e. row-iff g .0 e z) in
@@ -221,8 +277,8 @@ row-numbers g w = go (eqb (rowSum g) 0) refl
         let m = mixed-done g w (row-iff g .1 h) in
         inr (ap (λ (a : Mixed). a .number) m, ap (λ (a : Mixed). a .word) m, h)
 
-pub table-numbers : TableNumbers
-table-numbers g room = go (eqb (rowSum g) 0) (eqb room 256) refl refl
+table-number : (g : List ℕ) (room : ℕ) → TableNumber g room (tableRefusal g room)
+table-number g room = go (eqb (rowSum g) 0) (eqb room 256) refl refl
   where
     go : (b c : Bool) → eqb (rowSum g) 0 ≡ b → eqb room 256 ≡ c → TableNumber g room (tableRefusal g room)
     go true c p q = let z : rowSum g ≡ 0 = eqb-true (rowSum g) 0 p in inl (table-zero g room z, z)
@@ -234,6 +290,9 @@ table-numbers g room = go (eqb (rowSum g) 0) (eqb room 256) refl refl
         let h : rowSum g ≡ 0 → ⊥ = eqb-false (rowSum g) 0 p in
         let e : room ≡ 256 = eqb-true room 256 q in
         inr (inr (table-iff g room .1 (h, e), h, e))
+
+pub answers-table : (g : List ℕ) {number : ℕ} {before after : List ℕ} → MakesTable g number before after → AnswersTable g number before after
+answers-table g {number} {before} h = (rw (h .0) (table-number g (length before)), kept number (merged g table1) before (h .1))
 
 -- ---- Job 5
 
@@ -287,10 +346,10 @@ changes-no-word = (unfold neutral constantRow in refl, λ w l. by-some neutral n
 pub changes-no-row : ChangesNoRow
 changes-no-row g r = (product-neutral g r, product-comm neutral g ∙ product-neutral g r)
 
-pub inverse-numbers : InverseNumbers
-inverse-numbers g r = go (eqb (rowSum g) 0) refl
+pub one-inverse : OneInverse
+one-inverse g answer r q = rw q (go (eqb (rowSum g) 0) refl)
   where
-    go : (b : Bool) → eqb (rowSum g) 0 ≡ b → InverseNumber g (inverted g (rowRefusal g))
+    go : (b : Bool) → eqb (rowSum g) 0 ≡ b → AnswersInverse g (inverted g (rowRefusal g))
     go true p =
         let z : rowSum g ≡ 0 = eqb-true (rowSum g) 0 p in
         let k = inverted-refused g (rowRefusal g) (λ e. row-iff g .0 e z) in

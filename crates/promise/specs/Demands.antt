@@ -2,38 +2,32 @@
 -- sentence speaks of what operations do, the statement is over the operation's answer.
 -- Assumes nothing.
 use mathlib.Core.Path.{_≡_}
-use mathlib.Core.Logic.{_⊎_, _↔_}
-use mathlib.Core.List.{List}
+use mathlib.Core.Logic.{_↔_}
+use mathlib.Core.List.{List, [], _∷_}
 use Prim.Native.Nat.{ℕ, _*_, _%_, _^_, _≤_, _<_}
 use lib.Bits.{bitXor}
 use lib.ListN.{length, getD, replicate}
 use Rattle.forms.specs.Lists.{over, iterate}
 use Rattle.forms.specs.Words.{rotl}
-use Rattle.forms.specs.Refusals.{outcome, firstOf}
+use Rattle.forms.specs.Refusals.{Unless, outcome, firstOf}
 use Rattle.field.specs.Mixing.{mix, scale}
 use Rattle.field.specs.Published.{row}
 use Rattle.labyrinth.specs.declared.WorkingKey.{WorkingKey}
 use Rattle.labyrinth.specs.declared.Expanded.{Expanded}
 use Rattle.labyrinth.specs.Cipher.{article}
 use Rattle.labyrinth.specs.Keys.{E, U}
-use Rattle.labyrinth.specs.Refusals.{blockRefusal, expandRefusal, expansion}
+use Rattle.labyrinth.specs.Refusals.{Legal, LegalLength, blockRefusal, expandRefusal, expansion}
 use Rattle.tape_rules.specs.declared.Tape.{Tape}
 use Rattle.tape_rules.specs.declared.Stepped.{Stepped}
 use Rattle.tape_rules.specs.Steps.{step}
 use Rattle.tape_rules.specs.Steps as tape
+use Rattle.tape_rules.specs.Plain.{StepSays}
 use Rattle.tape_run.specs.declared.Answered.{Answered}
-use Rattle.tape_run.specs.Runs.{run}
+use Rattle.tape_run.specs.Runs.{steps, joined, tapeAnswers, run}
 use Rattle.tape_run.specs.Runs as tape-run
 use Rattle.modes.specs.Cbc.{cbcSeal, cbcOpen}
 use Rattle.modes.specs.Ctr.{ctr}
 use Rattle.modes.specs.Refusals.{cbcRefusal, ctrRefusal}
-
--- n is 1, 2 or 4; l is 2, 3 or 4
-abbrev pub Legal : ℕ → Type 0
-Legal n = (n ≡ 1) ⊎ ((n ≡ 2) ⊎ (n ≡ 4))
-
-abbrev pub LegalLength : ℕ → Type 0
-LegalLength l = (l ≡ 2) ⊎ ((l ≡ 3) ⊎ (l ≡ 4))
 
 -- a list of bytes, a list of words of 64 bits
 abbrev pub Bytes : List ℕ → Type 0
@@ -44,35 +38,76 @@ Words ws = (i : ℕ) → getD ws i 0 < 2 ^ 64
 
 -- ---- Demand 1
 
--- "Every key, block, run and command tape that document 01 admits is taken, and the work on it stays inside the lent memory and ends."
--- That the work stays inside and ends is what the checker proves of every function. Taken: the number is 0 exactly when the paper admits.
+-- "Every key, block, run and command tape that document 01 admits is taken, and the work on it stays inside the lent memory and ends. Everything
+-- else, from any caller, is refused with document 01's number in its order of checks, and what the refusal returns and leaves in each buffer is
+-- fixed there." That the work stays inside and ends is what the checker proves of every function. The rest is stated of what the operations
+-- answer. Which number, in plain terms and in document 01's order: `Unless` what is asked for holds it is the number named, else what follows.
+-- Document 01: "Each returns 0 or the first number that applies."
+abbrev pub KeyNumber : ℕ → ℕ → ℕ → ℕ → Type 0
+KeyNumber n l key number = Unless (Legal n) (number ≡ 1) (Unless (LegalLength l) (number ≡ 2) (Unless (key ≡ 8 * (n * l)) (number ≡ 3) (number ≡ 0)))
+
+abbrev pub BlockNumber : ℕ → ℕ → ℕ → ℕ → Type 0
+BlockNumber n source destination number =
+    Unless (Legal n) (number ≡ 1) (Unless (source ≡ 16 * n) (number ≡ 4) (Unless (destination ≡ 16 * n) (number ≡ 5) (number ≡ 0)))
+
+abbrev pub CbcNumber : ℕ → ℕ → ℕ → ℕ → ℕ → Type 0
+CbcNumber n start source destination number =
+    Unless (Legal n) (number ≡ 1)
+    (Unless (start ≡ 16 * n) (number ≡ 6) (Unless (source % (16 * n) ≡ 0) (number ≡ 4) (Unless (destination ≡ source) (number ≡ 5) (number ≡ 0))))
+
+abbrev pub CtrNumber : ℕ → ℕ → ℕ → ℕ → ℕ → Type 0
+CtrNumber n start source destination number =
+    Unless (Legal n) (number ≡ 1) (Unless (start ≡ 16 * n) (number ≡ 6) (Unless (destination ≡ source) (number ≡ 5) (number ≡ 0)))
+
+-- so what is taken, number 0, is exactly what document 01 admits
 abbrev pub KeysTaken : Type 0
-KeysTaken = (n l key : ℕ) → (expandRefusal n l key ≡ 0) ↔ (Legal n × LegalLength l × (key ≡ 8 * (n * l)))
+KeysTaken = (n l key number : ℕ) → KeyNumber n l key number → (number ≡ 0) ↔ (Legal n × LegalLength l × (key ≡ 8 * (n * l)))
 
 abbrev pub BlocksTaken : Type 0
-BlocksTaken = (n source destination : ℕ) → (blockRefusal n source destination ≡ 0) ↔ (Legal n × (source ≡ 16 * n) × (destination ≡ 16 * n))
+BlocksTaken =
+    (n source destination number : ℕ) → BlockNumber n source destination number → (number ≡ 0) ↔ (Legal n × (source ≡ 16 * n) × (destination ≡ 16 * n))
 
 abbrev pub CbcTaken : Type 0
 CbcTaken =
-    (n start source destination : ℕ) → (cbcRefusal n start source destination ≡ 0)
-    ↔ (Legal n × (start ≡ 16 * n) × (source % (16 * n) ≡ 0) × (destination ≡ source))
+    (n start source destination number : ℕ) → CbcNumber n start source destination number
+    → (number ≡ 0) ↔ (Legal n × (start ≡ 16 * n) × (source % (16 * n) ≡ 0) × (destination ≡ source))
 
 abbrev pub CtrTaken : Type 0
-CtrTaken = (n start source destination : ℕ) → (ctrRefusal n start source destination ≡ 0) ↔ (Legal n × (start ≡ 16 * n) × (destination ≡ source))
+CtrTaken =
+    (n start source destination number : ℕ) → CtrNumber n start source destination number
+    → (number ≡ 0) ↔ (Legal n × (start ≡ 16 * n) × (destination ≡ source))
 
-abbrev pub TapesTaken : Type 0
-TapesTaken = (tape : List ℕ) (answers : ℕ) → (run tape answers .number ≡ 0) ↔ ((answers ≡ 65537) × (length tape ≤ 65536))
+-- "After a refusal every lent buffer holds what it held before": of a buffer before and after. A buffer lent for reading only has no after.
+abbrev pub Kept : ℕ → List ℕ → List ℕ → Type 0
+Kept number before after = (number ≡ 0 → ⊥) → after ≡ before
 
--- "Everything else, from any caller, is refused with document 01's number in its order of checks, and what the refusal returns and leaves
--- in each buffer is fixed there." The numbers in their order are expandRefusal, blockRefusal, cbcRefusal and ctrRefusal, which the operations
--- of demand 2 return for all arguments; the tape's are in `step` and `run`. What a refusal leaves and returns, the tape's step apart:
-abbrev pub BuffersKept : Type 0
-BuffersKept = (number : ℕ) (result before : List ℕ) → (number ≡ 0 → ⊥) → outcome number result before ≡ before
+-- "The working key returned with a refusal has n = 0 and all words zero."
+abbrev pub AnswersKey : ℕ → ℕ → List ℕ → Expanded → Type 0
+AnswersKey n l key answer =
+    KeyNumber n l (length key) (answer .number) × ((answer .number ≡ 0 → ⊥) → answer .key ≡ record { n = 0; words = replicate 32 0 })
 
-abbrev pub KeysBlank : Type 0
-KeysBlank =
-    (SM : ℕ → ℕ) (n l : ℕ) (key : List ℕ) (number : ℕ) → (number ≡ 0 → ⊥)
-    → expansion SM n l key number ≡ record { number = number; key = record { n = 0; words = replicate 32 0 } }
+abbrev pub AnswersBlock : WorkingKey → List ℕ → ℕ → List ℕ → List ℕ → Type 0
+AnswersBlock k source number before after = BlockNumber (k .n) (length source) (length before) number × Kept number before after
+
+abbrev pub AnswersCbc : WorkingKey → List ℕ → List ℕ → ℕ → List ℕ → List ℕ → Type 0
+AnswersCbc k start source number before after = CbcNumber (k .n) (length start) (length source) (length before) number × Kept number before after
+
+abbrev pub AnswersCtr : WorkingKey → List ℕ → List ℕ → ℕ → List ℕ → List ℕ → Type 0
+AnswersCtr k start source number before after = CtrNumber (k .n) (length start) (length source) (length before) number × Kept number before after
+
+-- the tape's step: 5; then an ended state, an empty rest, 7, 8; for 01 then 1, 2, 10, for 03 and 04 then 9, 1, 10; with what each takes, writes and
+-- leaves. `StepSays` has them in order, and here what the step gave is its answer and what was written over the front of the answer buffer
+abbrev pub AnswersStep : Tape → List ℕ → Stepped → List ℕ → List ℕ → Type 0
+AnswersStep t rest answer before after =
+    StepSays (λ number taken written next.
+    (answer ≡ record { number = number; taken = taken; written = length written; next = next }) × (after ≡ over written before)) t rest (length before)
+
+-- a whole tape: a buffer of another size than 65,537 bytes, which is ours to refuse, gets 5 and stays; "For a longer tape it writes the byte 04 only."
+abbrev pub AnswersTape : List ℕ → Answered → List ℕ → List ℕ → Type 0
+AnswersTape tape answer before after =
+    Unless (length before ≡ 65537) ((answer ≡ record { number = 5; length = 0 }) × (after ≡ before))
+    (Unless (length tape ≤ 65536) ((answer ≡ record { number = 4; length = 1 }) × (after ≡ over (4 ∷ []) before))
+    ((answer ≡ record { number = 0; length = length (tapeAnswers tape) }) × (after ≡ over (tapeAnswers tape) before)))
 
 -- ---- Demand 2
 
@@ -116,6 +151,40 @@ Steps t rest answer before after = let a = step t rest (length before) in (answe
 abbrev pub WorksTape : List ℕ → Answered → List ℕ → List ℕ → Type 0
 WorksTape tape answer before after = let a = run tape (length before) in (answer ≡ tape-run.returned a) × (after ≡ over (a .written) before)
 
+-- ---- Document 01 on the working key
+
+-- "Expansion sets the unused words to zero": of what expansion answers, 32 words, those from 8n on zero; a refused key, with n = 0, too
+abbrev pub UnusedWordsZero : Expanded → Type 0
+UnusedWordsZero answer = (length (answer .key .words) ≡ 32) × ((i : ℕ) → 8 * answer .key .n ≤ i → getD (answer .key .words) i 0 ≡ 0)
+
+-- "Later answers depend on the used words only." Two working keys with the same n and the same used words, 8n of them
+abbrev pub SameUsed : WorkingKey → WorkingKey → Type 0
+SameUsed k j = (k .n ≡ j .n) × ((i : ℕ) → i < 8 * k .n → getD (k .words) i 0 ≡ getD (j .words) i 0)
+
+-- and two states of the tape with such keys and the same marks
+abbrev pub AlikeStates : Tape → Tape → Type 0
+AlikeStates t u = SameUsed (t .key) (u .key) × (t .keyed ≡ u .keyed) × (t .ended ≡ u .ended)
+
+-- Said of what two calls of an operation answer. Call says of arguments, a returned value and the arguments' ends that they are a call's, as the
+-- operation's contract tells (proofs/Operations); key is the working key among the arguments, given what else the answer may depend on, left what
+-- the call leaves in the destination. With keys alike and the rest given alike, the calls return the same and leave the same
+abbrev pub OfUsedWords : {A Z B G L : Type 0} → (A → Z → B → Type 0) → (A → WorkingKey) → (A → G) → (B → L) → Type 0
+OfUsedWords {A} {Z} {B} Call key given left =
+    (a b : A) (y z : Z) (e f : B) → Call a y e → Call b z f → SameUsed (key a) (key b) → given a ≡ given b → (y ≡ z) × (left e ≡ left f)
+
+-- and of two calls of the tape's step, from such states on one rest and one buffer: equal answers, and next states alike again
+abbrev pub AlikeAnswers : Stepped → Stepped → Type 0
+AlikeAnswers y z = (y .number ≡ z .number) × (y .taken ≡ z .taken) × (y .written ≡ z .written) × AlikeStates (y .next) (z .next)
+
+abbrev pub StepsOfUsedWords : {A B G : Type 0} → (A → Stepped → B → Type 0) → (A → Tape) → (A → G) → (B → List ℕ) → Type 0
+StepsOfUsedWords {A} {B} Call state given left =
+    (a b : A) (y z : Stepped) (e f : B) → Call a y e → Call b z f → AlikeStates (state a) (state b) → given a ≡ given b
+    → AlikeAnswers y z × (left e ≡ left f)
+
+-- so a whole tape, worked from such states, is answered the same; the run of a tape begins with the fresh state, and takes no key
+abbrev pub TapesOfUsedWords : Type 0
+TapesOfUsedWords = (k : ℕ) (t u : Tape) (rest : List ℕ) → AlikeStates t u → joined (steps k t rest) ≡ joined (steps k u rest)
+
 -- ---- Demand 3
 
 -- "Whatever words a working key of a legal size holds, expanded or made by hand, let E be the article's block map under its enciphering
@@ -126,20 +195,29 @@ EAndUUndo =
     (n : ℕ) (ws b : List ℕ) → Words ws → length b ≡ 16 * n → Bytes b → (U article n ws (E article n ws b) ≡ b) × (E article n ws (U article n ws b) ≡ b)
 
 -- "For every CBC or CTR sealing that document 01 admits, the empty one too, every admitted opening of its result, by the same kind of run and
--- under the same working key, start block and, in CTR, offset, gives back the source byte for byte."
+-- under the same working key, start block and, in CTR, offset, gives back the source byte for byte": of the modes,
 abbrev pub CbcOpensAgain : Type 0
 CbcOpensAgain =
-    (n : ℕ) (ws start p : List ℕ) (sealed opened : ℕ) → Words ws → Bytes start → Bytes p
-    → cbcRefusal n (length start) (length p) sealed ≡ 0 → cbcRefusal n (length start) sealed opened ≡ 0
+    (n : ℕ) (ws start p : List ℕ) (sealed : ℕ) → Words ws → Bytes start → Bytes p → CbcNumber n (length start) (length p) sealed 0
     → cbcOpen (U article n ws) (16 * n) start (cbcSeal (E article n ws) (16 * n) start p) ≡ p
 
 abbrev pub CtrOpensAgain : Type 0
 CtrOpensAgain =
-    (n : ℕ) (ws start : List ℕ) (q : ℕ) (p : List ℕ) (sealed opened : ℕ)
-    → ctrRefusal n (length start) (length p) sealed ≡ 0 → ctrRefusal n (length start) sealed opened ≡ 0
+    (n : ℕ) (ws start : List ℕ) (q : ℕ) (p : List ℕ) (sealed : ℕ) → CtrNumber n (length start) (length p) sealed 0
     → ctr (E article n ws) (16 * n) start q (ctr (E article n ws) (16 * n) start q p) ≡ p
 
--- and of the operations themselves: sealing to a middle buffer and opening from it answers the first number that isn't 0, and the source
+-- of a sealing call and any opening call on what it left,
+abbrev pub CbcCallsOpen : Type 0
+CbcCallsOpen =
+    (k : WorkingKey) (start source before sealed old opened : List ℕ) → Words (k .words) → Bytes start → Bytes source
+    → SealsCbc k start source 0 before sealed → OpensCbc k start sealed 0 old opened → opened ≡ source
+
+abbrev pub CtrCallsOpen : Type 0
+CtrCallsOpen =
+    (k : WorkingKey) (start : List ℕ) (q : ℕ) (source before sealed old opened : List ℕ)
+    → RunsCtr k start q source 0 before sealed → RunsCtr k start q sealed 0 old opened → opened ≡ source
+
+-- and of a function that makes both calls: sealing to a middle buffer and opening from it answers the first number that isn't 0, and the source
 abbrev pub ComesBack : ℕ → ℕ → List ℕ → ℕ → List ℕ → List ℕ → Type 0
 ComesBack sealing opening source number before after = (number ≡ firstOf sealing opening) × (after ≡ outcome number source before)
 

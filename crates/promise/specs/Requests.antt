@@ -8,9 +8,9 @@ use Prim.Native.Nat.{ℕ, _-_, _*_, _^_, _≤_, _<_}
 use lib.Bits.{bitXor}
 use lib.Count.{leadingZeros}
 use lib.ListN.{length, getD, take, drop, replicate}
-use Rattle.forms.specs.Lists.{iterate}
+use Rattle.forms.specs.Lists.{over, iterate}
 use Rattle.forms.specs.Words.{rotl, eachByte}
-use Rattle.forms.specs.Refusals.{outcome, firstOf}
+use Rattle.forms.specs.Refusals.{Unless, outcome, firstOf}
 use Rattle.forms.specs.Strings.{number}
 use Rattle.field.specs.Field.{mul, power, polyMul}
 use Rattle.field.specs.Substitution.{sub}
@@ -28,15 +28,19 @@ use Rattle.judge.specs.Judge.{together, GoodEnough, FallsShort}
 use Rattle.labyrinth.specs.declared.WorkingKey.{WorkingKey}
 use Rattle.labyrinth.specs.Cipher.{article}
 use Rattle.labyrinth.specs.Keys.{E}
+use Rattle.labyrinth.specs.Refusals.{Legal}
 use Rattle.modes.specs.Cmac.{K1, K2, tag}
 use Rattle.modes.specs.Gf128.{Remainder}
 use Rattle.modes.specs.Refusals.{cmacRefusal}
 use Rattle.cmac.specs.declared.Verified.{Verified}
 use Rattle.cmac.specs.Verification.{verification}
 use Rattle.tape_rules.specs.declared.Tape.{Tape}
-use Rattle.tape_rules.specs.Steps.{Answer, ended, step}
-use Rattle.tape_run.specs.Runs.{tapeSteps, tapeAnswers, lastAnswer, lastRest, run}
-use Rattle.promise.specs.Demands.{Legal}
+use Rattle.tape_rules.specs.declared.Stepped.{Stepped}
+use Rattle.tape_rules.specs.Steps.{Answer, ended}
+use Rattle.tape_rules.specs.Plain.{UnknownCommand}
+use Rattle.tape_run.specs.declared.Answered.{Answered}
+use Rattle.tape_run.specs.Runs.{joined, tapeSteps, lastAnswer, lastRest}
+use Rattle.promise.specs.Demands.{Kept, Steps, WorksTape}
 
 -- ---- Job 1: a tag on each page
 
@@ -61,71 +65,78 @@ abbrev pub OneRemainder : Type 0
 OneRemainder = (a r s : ℕ) → Remainder a r → Remainder a s → r ≡ s
 
 -- "Verifying says yes if and only if the given tag equals those first bytes." A refusal is a no.
-abbrev pub YesExactly : Type 0
-YesExactly =
-    (n : ℕ) (ws message given : List ℕ) → let e = E article n ws in
-    (verification e message given (cmacRefusal n (length given)) .yes ≡ true)
-    ↔ ((cmacRefusal n (length given) ≡ 0) × (given ≡ tag e (length given) message))
+abbrev pub YesExactly : WorkingKey → List ℕ → List ℕ → Verified → Type 0
+YesExactly k message given answer = (answer .yes ≡ true) ↔ ((answer .number ≡ 0) × (given ≡ tag (E article (k .n) (k .words)) (length given) message))
 
 -- and of the operations themselves: a tag made in a buffer and verified there gets a yes, unless it was refused
 abbrev pub GetsYes : ℕ → Verified → Type 0
 GetsYes refusal answer = (answer .number ≡ refusal) × ((answer .yes ≡ true) ↔ (refusal ≡ 0))
 
--- document 01: "Later answers depend on the used words only." Two working keys with the same used words, 8n of them:
-abbrev pub TagsOfUsedWords : Type 0
-TagsOfUsedWords =
-    (n : ℕ) (ws vs : List ℕ) → ((i : ℕ) → i < 8 * n → getD ws i 0 ≡ getD vs i 0) → (message given : List ℕ) (size answer : ℕ)
-    → (tag (E article n ws) size message ≡ tag (E article n vs) size message)
-    × (verification (E article n ws) message given answer ≡ verification (E article n vs) message given answer)
-
 -- "It refuses a working key of legal n other than 1 with 12, after 1; and then a tag length outside 8 to 16 with 11, and nothing else."
 abbrev pub TagNumber : ℕ → ℕ → ℕ → Type 0
-TagNumber n size answer =
-    ((answer ≡ 1) × (Legal n → ⊥)) ⊎ (((answer ≡ 12) × ((n ≡ 2) ⊎ (n ≡ 4)))
-    ⊎ (((answer ≡ 11) × (n ≡ 1) × ((size < 8) ⊎ (16 < size))) ⊎ ((answer ≡ 0) × (n ≡ 1) × (8 ≤ size) × (size ≤ 16))))
+TagNumber n size number =
+    Unless (Legal n) (number ≡ 1) (Unless (n ≡ 1) (number ≡ 12) (Unless ((8 ≤ size) × (size ≤ 16)) (number ≡ 11) (number ≡ 0)))
 
-abbrev pub TagNumbers : Type 0
-TagNumbers = (n size : ℕ) → TagNumber n size (cmacRefusal n size)
+abbrev pub TagsTaken : Type 0
+TagsTaken = (n size number : ℕ) → TagNumber n size number → (number ≡ 0) ↔ ((n ≡ 1) × (8 ≤ size) × (size ≤ 16))
+
+-- with document 01's rule for what a refusal leaves, or returns beside its number: "only zeros, a no or an empty part"
+abbrev pub AnswersTag : WorkingKey → ℕ → List ℕ → List ℕ → Type 0
+AnswersTag k number before after = TagNumber (k .n) (length before) number × Kept number before after
+
+abbrev pub AnswersVerifying : WorkingKey → List ℕ → Verified → Type 0
+AnswersVerifying k given answer = TagNumber (k .n) (length given) (answer .number) × ((answer .number ≡ 0 → ⊥) → answer .yes ≡ false)
 
 -- ---- Job 2: a tape copied short
 
 -- "From now on only command 00 ends a tape well. A rest of length 0 in a state that has not ended answers 8: it writes that byte, takes none
 -- and ends."
 abbrev pub EmptyRest : Type 0
-EmptyRest = (t : Tape) → t .ended ≡ false → step t [] 65 ≡ record { number = 8; taken = 0; written = 8 ∷ []; next = ended t }
+EmptyRest =
+    (t : Tape) (answer : Stepped) (before after : List ℕ) → Steps t [] answer before after → length before ≡ 65 → t .ended ≡ false
+    → (answer ≡ record { number = 8; taken = 0; written = 1; next = ended t }) × (after ≡ over (8 ∷ []) before)
 
 -- an ended state gives 0 and nothing as before, and 5 comes first as before
 abbrev pub EndedState : Type 0
-EndedState = (t : Tape) (rest : List ℕ) → t .ended ≡ true → step t rest 65 ≡ record { number = 0; taken = 0; written = []; next = ended t }
+EndedState =
+    (t : Tape) (rest : List ℕ) (answer : Stepped) (before after : List ℕ) → Steps t rest answer before after → length before ≡ 65 → t .ended ≡ true
+    → (answer ≡ record { number = 0; taken = 0; written = 0; next = ended t }) × (after ≡ before)
 
 abbrev pub FiveFirst : Type 0
-FiveFirst = (t : Tape) (rest : List ℕ) (room : ℕ) → (room ≡ 65 → ⊥) → step t rest room ≡ record { number = 5; taken = 0; written = []; next = t }
+FiveFirst =
+    (t : Tape) (rest : List ℕ) (answer : Stepped) (before after : List ℕ) → Steps t rest answer before after → (length before ≡ 65 → ⊥)
+    → (answer ≡ record { number = 5; taken = 0; written = 0; next = t }) × (after ≡ before)
 
 -- "The example tape in document 01 keeps its output. The empty tape, which gave no bytes, now gives 08."
 abbrev pub example : List ℕ
 example = 0x05 ∷ 0x01 ∷ replicate 7 0x00 ++ (0x03 ∷ replicate 64 0x00 ++ (0x01 ∷ 0x03 ∷ 0x02 ∷ replicate 128 0x00 ++ (0x7F ∷ [])))
 
+-- bytes that a tape is answered with, by every run into a buffer of 65,537 bytes
+abbrev pub Gets : List ℕ → List ℕ → Type 0
+Gets tape bytes =
+    (answer : Answered) (before after : List ℕ) → WorksTape tape answer before after → length before ≡ 65537
+    → (answer ≡ record { number = 0; length = length bytes }) × (after ≡ over bytes before)
+
 abbrev pub ExampleKept : Type 0
-ExampleKept = tapeAnswers example ≡ 0x00 ∷ 0x01 ∷ 0x01 ∷ 0x03 ∷ 0x0F ∷ 0x0A ∷ 0x1F ∷ 0x0F ∷ 0x0C ∷ 0x09 ∷ 0x01 ∷ 0x07 ∷ []
+ExampleKept = Gets example (0x00 ∷ 0x01 ∷ 0x01 ∷ 0x03 ∷ 0x0F ∷ 0x0A ∷ 0x1F ∷ 0x0F ∷ 0x0C ∷ 0x09 ∷ 0x01 ∷ 0x07 ∷ [])
 
 abbrev pub EmptyTape : Type 0
-EmptyTape = tapeAnswers [] ≡ 0x08 ∷ []
+EmptyTape = Gets [] (0x08 ∷ [])
 
--- what a tape's run was ended by: the command byte c at which its last step begins; an unknown command is none of document 01's
+-- what a tape's run was ended by: the command byte c at which its last step begins
 abbrev pub EndedBy : List ℕ → ℕ → Type 0
 EndedBy tape c = take 1 (lastRest tape (tapeSteps tape)) ≡ c ∷ []
 
-abbrev pub UnknownCommand : ℕ → Type 0
-UnknownCommand c = (c ≡ 0x00 → ⊥) × (c ≡ 0x01 → ⊥) × (c ≡ 0x03 → ⊥) × (c ≡ 0x04 → ⊥) × (c ≡ 0x05 → ⊥)
-
--- for operators: of the steps whose bytes a run writes, the last that wrote has number 8 exactly when neither 00 nor an unknown command ended
--- the run; and then those bytes end with 08 (they may end so without it too, since data may)
-abbrev pub EightTells : Type 0
-EightTells =
-    (tape : List ℕ) → length tape ≤ 65536
-    → (run tape 65537 .written ≡ tapeAnswers tape)
+-- of a run that is answered 0, so of a tape of at most 65,536 bytes: the bytes written are those of its steps, one after another; it was ended by 00
+-- exactly when its last answer, that of the last step that wrote, is neither 7 nor 8; and, for operators, that answer is 8 exactly when neither 00
+-- nor an unknown command ended the run, and then the bytes end with 08 (they may end so without it too, since data may)
+abbrev pub TellsItsEnd : List ℕ → Answered → List ℕ → Type 0
+TellsItsEnd tape answer after =
+    answer .number ≡ 0 → let written = take (answer .length) after in
+    (written ≡ joined (tapeSteps tape))
+    × (EndedBy tape 0x00 ↔ ((lastAnswer tape ≡ 7 → ⊥) × (lastAnswer tape ≡ 8 → ⊥)))
     × ((lastAnswer tape ≡ 8) ↔ ((c : ℕ) → EndedBy tape c → (c ≡ 0x00) ⊎ UnknownCommand c → ⊥))
-    × (lastAnswer tape ≡ 8 → drop (length (tapeAnswers tape) - 1) (tapeAnswers tape) ≡ 8 ∷ [])
+    × (lastAnswer tape ≡ 8 → drop (answer .length - 1) written ≡ 8 ∷ [])
 
 -- there is one 8 at most: a step with that number writes it alone, and is the last
 abbrev pub OneEight : Type 0
@@ -207,21 +218,18 @@ abbrev pub FindsMixed : List ℕ → ℕ → List ℕ → List ℕ → ℕ → �
 FindsMixed g answer after lent w found = answer ≡ 0 → lent ≡ after → found ≡ by g (eachByte (sub table1) w)
 
 -- "Mixing, which took every value until now, and the table refuse a row whose coefficients XOR to zero with 13, returning the zero word or leaving
--- the table buffer as it was; then a table buffer that isn't 256 words with 5." What a refusal leaves in a buffer is demand 1's `BuffersKept`
-abbrev pub RowNumber : List ℕ → ℕ → Mixed → Type 0
-RowNumber g w answer =
+-- the table buffer as it was; then a table buffer that isn't 256 words with 5."
+abbrev pub AnswersMixing : List ℕ → ℕ → Mixed → Type 0
+AnswersMixing g w answer =
     ((answer .number ≡ 13) × (answer .word ≡ 0) × (rowSum g ≡ 0)) ⊎ ((answer .number ≡ 0) × (answer .word ≡ mix g w) × (rowSum g ≡ 0 → ⊥))
 
-abbrev pub RowNumbers : Type 0
-RowNumbers = (g : List ℕ) (w : ℕ) → RowNumber g w (mixed g w (rowRefusal g))
-
 abbrev pub TableNumber : List ℕ → ℕ → ℕ → Type 0
-TableNumber g room answer =
-    ((answer ≡ 13) × (rowSum g ≡ 0))
-    ⊎ (((answer ≡ 5) × (rowSum g ≡ 0 → ⊥) × (room ≡ 256 → ⊥)) ⊎ ((answer ≡ 0) × (rowSum g ≡ 0 → ⊥) × (room ≡ 256)))
+TableNumber g room number =
+    ((number ≡ 13) × (rowSum g ≡ 0))
+    ⊎ (((number ≡ 5) × (rowSum g ≡ 0 → ⊥) × (room ≡ 256 → ⊥)) ⊎ ((number ≡ 0) × (rowSum g ≡ 0 → ⊥) × (room ≡ 256)))
 
-abbrev pub TableNumbers : Type 0
-TableNumbers = (g : List ℕ) (room : ℕ) → TableNumber g room (tableRefusal g room)
+abbrev pub AnswersTable : List ℕ → ℕ → List ℕ → List ℕ → Type 0
+AnswersTable g number before after = TableNumber g (length before) number × Kept number before after
 
 -- ---- Job 5: rows multiply
 
@@ -253,13 +261,14 @@ Inverts g answer = answer ≡ inverted g (rowRefusal g)
 abbrev pub InverseOf : List ℕ → List ℕ → Type 0
 InverseOf g h = Row h × (product g h ≡ neutral)
 
-abbrev pub InverseNumber : List ℕ → Inverted → Type 0
-InverseNumber g answer =
+abbrev pub AnswersInverse : List ℕ → Inverted → Type 0
+AnswersInverse g answer =
     ((answer .number ≡ 13) × (answer .row ≡ replicate 8 0x00) × (rowSum g ≡ 0) × ((h : List ℕ) → InverseOf g h → ⊥))
     ⊎ ((answer .number ≡ 0) × InverseOf g (answer .row) × (rowSum g ≡ 0 → ⊥) × ((h : List ℕ) → InverseOf g h → h ≡ answer .row))
 
-abbrev pub InverseNumbers : Type 0
-InverseNumbers = (g : List ℕ) → Row g → InverseNumber g (inverted g (rowRefusal g))
+-- for any row of eight bytes
+abbrev pub OneInverse : Type 0
+OneInverse = (g : List ℕ) (answer : Inverted) → Row g → Inverts g answer → AnswersInverse g answer
 
 abbrev pub PublishedInverse : Type 0
 PublishedInverse = inverseRow row ≡ 0x35 ∷ 0xC0 ∷ 0xC7 ∷ 0xA9 ∷ 0x9E ∷ 0xC6 ∷ 0x2E ∷ 0xF3 ∷ []

@@ -11,34 +11,31 @@ use lib.Dec.{eqb, ltb}
 use lib.ListN.{length, getD, take, drop, length-take, List·getD-eq-default}
 use lib.Seq.{getD-take, getD-drop}
 use Rattle.forms.proofs.Refusals.{unless-zero}
-use Rattle.forms.proofs.Booleans.{OneOf, when-all}
+use Rattle.forms.proofs.Booleans.{when-all}
 use Rattle.labyrinth.specs.Cipher.{article}
 use Rattle.labyrinth.specs.Keys.{E, U}
-use Rattle.labyrinth.specs.Refusals.{legal, legalLength}
+use Rattle.labyrinth.specs.Refusals.{legal, legalLength, Legal, LegalLength}
 use Rattle.labyrinth.proofs.Refusals.{legal-iff, legalLength-iff}
 use Rattle.operands.specs.Operands.{zeros}
 use Rattle.operands.proofs.Operands.{zeros-iff}
 use Rattle.tape_rules.specs.declared.Tape.{Tape}
 use Rattle.tape_rules.specs.Steps.{Answer, ended, refuses, ends, atEnd, keyRefusal, setKey, mapRefusal, mapBlock, mixWord, command, step}
+use Rattle.tape_rules.specs.Plain.{UnusedZero}
 use Rattle.tape_rules.proofs.Cases.{command-0, command-1, command-3, command-4, command-5, command-other, setKey-short, mapBlock-short, mixWord-short, step-room, step-ended, step-empty}
 use Rattle.tape_rules.proofs.Ways.{Known, sets, maps, mixes, Unknown, keeps-some, keeps-not-eight, Maps, enciphers, deciphers, Way, over, empty, closed, unknown, cut, refused, set, mapped, mixed, way-of}
 
 -- ---- unused bytes
 
--- of an operand of so many bytes at a place of the rest, each unused byte is 0
-abbrev pub Unused : ℕ → ℕ → ℕ → List ℕ → Type 0
-Unused at used width rest = (i : ℕ) → used ≤ i → i < width → getD rest (at + i) 0 ≡ 0
-
-pub unused-iff : (at used width : ℕ) (rest : List ℕ) → (zeros (drop used (take width (drop at rest))) ≡ true) ↔ Unused at used width rest
+pub unused-iff : (at used width : ℕ) (rest : List ℕ) → (zeros (drop used (take width (drop at rest))) ≡ true) ↔ UnusedZero at used width rest
 unused-iff at used width rest = (down, λ u. zeros-iff (drop used (take width (drop at rest))) .1 (λ j. up u j (ltb (used + j) width) refl))
   where
-    down : zeros (drop used (take width (drop at rest))) ≡ true → Unused at used width rest
+    down : zeros (drop used (take width (drop at rest))) ≡ true → UnusedZero at used width rest
     down e i h k =
         let p : i ≡ used + (i - used) = omega arith in
         sym (getD-drop at rest i 0) ∙ sym (getD-take width (drop at rest) i 0 k) ∙ ap (λ (x : ℕ). getD (take width (drop at rest)) x 0) p
         ∙ sym (getD-drop used (take width (drop at rest)) (i - used) 0) ∙ zeros-iff (drop used (take width (drop at rest))) .0 e (i - used)
 
-    up : Unused at used width rest → (j : ℕ) (b : Bool) → ltb (used + j) width ≡ b → getD (drop used (take width (drop at rest))) j 0 ≡ 0
+    up : UnusedZero at used width rest → (j : ℕ) (b : Bool) → ltb (used + j) width ≡ b → getD (drop used (take width (drop at rest))) j 0 ≡ 0
     up u j true e =
         let h = ltb-true (used + j) width e in
         getD-drop used (take width (drop at rest)) j 0 ∙ getD-take width (drop at rest) (used + j) 0 h ∙ getD-drop at rest (used + j) 0 ∙ u (used + j) (omega arith) h
@@ -49,7 +46,7 @@ unused-iff at used width rest = (down, λ u. zeros-iff (drop used (take width (d
 -- ---- the commands' numbers
 
 -- an 01 of n and l passes exactly when n is 1, 2 or 4, l is 2, 3 or 4, and each unused key byte is 0
-pub key-iff : (n l : ℕ) (rest : List ℕ) → (keyRefusal n l (take 128 (drop 3 rest)) ≡ 0) ↔ (OneOf 1 2 4 n × OneOf 2 3 4 l × Unused 3 (8 * (n * l)) 128 rest)
+pub key-iff : (n l : ℕ) (rest : List ℕ) → (keyRefusal n l (take 128 (drop 3 rest)) ≡ 0) ↔ (Legal n × LegalLength l × UnusedZero 3 (8 * (n * l)) 128 rest)
 unfolding keyRefusal
 key-iff n l rest = (
   λ e. let a = unless-zero (legal n) 0 _ e in let b = unless-zero (legalLength l) 1 _ (a .1) in
@@ -59,7 +56,7 @@ key-iff n l rest = (
 )
 
 -- a 03 or 04 passes exactly when a key was set, its n is 1, 2 or 4, and each unused block byte is 0
-pub map-iff : (t : Tape) (rest : List ℕ) → (mapRefusal t (take 64 (drop 1 rest)) ≡ 0) ↔ ((t .keyed ≡ true) × OneOf 1 2 4 (t .key .n) × Unused 1 (16 * t .key .n) 64 rest)
+pub map-iff : (t : Tape) (rest : List ℕ) → (mapRefusal t (take 64 (drop 1 rest)) ≡ 0) ↔ ((t .keyed ≡ true) × Legal (t .key .n) × UnusedZero 1 (16 * t .key .n) 64 rest)
 unfolding mapRefusal
 map-iff t rest = (
   λ e. let a = unless-zero (t .keyed) 8 _ e in let b = unless-zero (legal (t .key .n)) 0 _ (a .1) in
@@ -73,9 +70,9 @@ map-iff t rest = (
 -- a command that is obeyed
 pub data Obeyed (t : Tape) (rest : List ℕ) : Type 0 where
   end : 0 < length rest → getD rest 0 0 ≡ 0 → Obeyed t rest
-  key : getD rest 0 0 ≡ 1 → 131 ≤ length rest → OneOf 1 2 4 (getD rest 1 0) → OneOf 2 3 4 (getD rest 2 0) → Unused 3 (8 * (getD rest 1 0 * getD rest 2 0)) 128 rest
+  key : getD rest 0 0 ≡ 1 → 131 ≤ length rest → Legal (getD rest 1 0) → LegalLength (getD rest 2 0) → UnusedZero 3 (8 * (getD rest 1 0 * getD rest 2 0)) 128 rest
       → Obeyed t rest
-  block : (getD rest 0 0 ≡ 3) ⊎ (getD rest 0 0 ≡ 4) → 65 ≤ length rest → t .keyed ≡ true → OneOf 1 2 4 (t .key .n) → Unused 1 (16 * t .key .n) 64 rest → Obeyed t rest
+  block : (getD rest 0 0 ≡ 3) ⊎ (getD rest 0 0 ≡ 4) → 65 ≤ length rest → t .keyed ≡ true → Legal (t .key .n) → UnusedZero 1 (16 * t .key .n) 64 rest → Obeyed t rest
   word : getD rest 0 0 ≡ 5 → 9 ≤ length rest → Obeyed t rest
 
 maps-one : {c : ℕ} {m : ℕ → List ℕ → List ℕ → List ℕ} → Maps c m → (c ≡ 3) ⊎ (c ≡ 4)

@@ -1,20 +1,21 @@
 -- How a run ended, told by its last answer.
 -- Assumes nothing.
 use mathlib.Core.Path.{_≡_, refl, sym, ap, _∙_, subst}
-use mathlib.Core.Bool.{Bool, true, false, true≢false}
+use mathlib.Core.Bool.{Bool, true, false, true≢false, false≢true}
 use mathlib.Core.List.{List, [], _∷_, _++_}
 use mathlib.Core.Logic.{inl, inr, ⊎-elim, _↔_}
-use Prim.Native.Nat.{ℕ, _+_, _-_, _≤_}
+use Prim.Native.Nat.{ℕ, _+_, _-_, _≤_, _<_}
 use native.Mathlib.Omega.{arith}
 use borrow.Author.Tests.{eqb-true, eqb-false}
 use lib.Dec.{eqb}
-use lib.ListN.{length, drop, length-append, length-drop}
+use lib.ListN.{length, getD, drop, length-append, length-drop}
 use lib.Seq.{drop-append-le, drop-append-add}
 use Rattle.forms.specs.Lists.{when}
+use Rattle.forms.proofs.Booleans.{when-all}
 use Rattle.tape_rules.specs.declared.Tape.{Tape}
 use Rattle.tape_rules.specs.Steps.{Answer, ended, refuses, step}
 use Rattle.tape_rules.proofs.Bounds.{step-bounded}
-use Rattle.tape_rules.proofs.Ways.{Known, sets, maps, mixes, Unknown}
+use Rattle.tape_rules.proofs.Ways.{Known, sets, maps, mixes, Unknown, keeps, keeps-not-eight, Way, over, empty, closed, unknown, cut, refused, set, mapped, mixed, way-of}
 use Rattle.tape_rules.proofs.Accepted.{Short, nothing-left, cut-short, short-step, eight-iff, Closed, Ending, shut, short, ends-iff}
 use Rattle.tape_rules.proofs.Front.{step-front}
 use Rattle.tape_run.specs.Runs.{tapeSteps, joined, tapeAnswers, lastNumber, lastAnswer, lastRest}
@@ -82,6 +83,58 @@ walked-number k h (more {t} {rest} o e w) =
 -- the last step that wrote has number 8 exactly when the run was not ended by a 00 or an unknown command
 pub last-eight : (tape : List ℕ) → (lastAnswer tape ≡ 8) ↔ (Closed (lastRest tape (tapeSteps tape)) → ⊥)
 last-eight tape = walked-number 0 (λ e. omega arith) (tape-walked tape)
+
+-- ---- ended well
+
+-- a rest that begins with 00
+pub record Begun (rest : List ℕ) : Type 0 where
+  pub some : 0 < length rest
+  pub zero : getD rest 0 0 ≡ 0
+
+-- a number that isn't 7 or 8
+abbrev pub Neither : ℕ → Type 0
+Neither k = (k ≡ 7 → ⊥) × (k ≡ 8 → ⊥)
+
+keeps-neither : (k : ℕ) → keeps k ≡ true → Neither k
+keeps-neither k e = (λ z. false≢true (ap keeps (sym z) ∙ e), keeps-not-eight k e)
+
+-- a step that goes on has neither number
+going-neither : {t : Tape} {rest : List ℕ} {a : Answer} → Way t rest a → a .next .ended ≡ false → Neither (a .number)
+going-neither (over _) z = absurd (true≢false z)
+going-neither (empty _ _) z = absurd (true≢false z)
+going-neither (closed _ _) z = absurd (true≢false z)
+going-neither (unknown _ _) z = absurd (true≢false z)
+going-neither (cut _ _ _) z = absurd (true≢false z)
+going-neither (refused r k _ _ _) z = keeps-neither r k
+going-neither (set _ _ _ _) z = (λ e. omega arith, λ e. omega arith)
+going-neither (mapped _ _ _ _) z = (λ e. omega arith, λ e. omega arith)
+going-neither (mixed _ _ _) z = (λ e. omega arith, λ e. omega arith)
+
+-- one that ends the tape leaves neither exactly if it begins with 00
+way-well : {t : Tape} {rest : List ℕ} {a : Answer} (k : ℕ) → Neither k → t .ended ≡ false → a .next .ended ≡ true → Way t rest a → Begun rest ↔ Neither (after k a)
+way-well k h o e (over z) = absurd (true≢false (sym z ∙ o))
+way-well k h o e (empty _ l) = (λ b. let f : ⊥ = omega (arith, b .some) in absurd f, λ n. absurd (n .1 refl))
+way-well k h o e (closed g z) = (λ b. h, λ n. record { some = g .some; zero = z })
+way-well k h o e (unknown g u) = (λ b. absurd (u .not0 (b .zero)), λ n. absurd (n .0 refl))
+way-well k h o e (cut g w l) = (λ b. absurd (known-some w (b .zero)), λ n. absurd (n .1 refl))
+way-well k h o e (refused _ _ _ _ _) = absurd (true≢false (sym e ∙ o))
+way-well k h o e (set _ _ _ _) = absurd (true≢false (sym e ∙ o))
+way-well k h o e (mapped _ _ _ _) = absurd (true≢false (sym e ∙ o))
+way-well k h o e (mixed _ _ _) = absurd (true≢false (sym e ∙ o))
+
+after-neither : (k : ℕ) (a : Answer) → Neither k → Neither (a .number) → Neither (after k a)
+after-neither k a h n = when-all Neither (eqb (length (a .written)) 0) (λ _. h) (λ _. n)
+
+walked-well : {t : Tape} {rest : List ℕ} {xs : List Answer} (k : ℕ) → Neither k → Walked t rest xs → Begun (lastRest rest xs) ↔ Neither (lastNumber k xs)
+unfolding lastNumber lastRest
+walked-well k h (last {t} {rest} o e) = way-well k h o e (way-of t rest)
+walked-well k h (more {t} {rest} o e w) =
+    rw (lastRest-more (step t rest 65) rest w)
+    (walked-well (after k (step t rest 65)) (after-neither k (step t rest 65) h (going-neither (way-of t rest) e)) w)
+
+-- the last step begins with 00 exactly when the last one that wrote has neither number
+pub last-well : (tape : List ℕ) → Begun (lastRest tape (tapeSteps tape)) ↔ Neither (lastAnswer tape)
+last-well tape = walked-well 0 (λ e. omega arith, λ e. omega arith) (tape-walked tape)
 
 -- ---- the last byte
 

@@ -1,15 +1,16 @@
 -- Laws of a whole tape: it is walked step by step to its end, and its answers fit.
 -- Assumes nothing.
-use mathlib.Core.Path.{_≡_, refl, sym, ap, ap₂, _∙_}
+use mathlib.Core.Path.{_≡_, refl, sym, ap, ap₂, _∙_, subst}
 use mathlib.Core.Bool.{Bool, true, false, true≢false}
 use mathlib.Core.List.{List, [], _∷_, _++_}
-use mathlib.Core.Logic.{⊎-elim, _↔_}
+use mathlib.Core.Logic.{inl, inr, ⊎-elim, _↔_}
 use Prim.Native.Nat.{ℕ, zero, suc, _+_, _≤_, _<_}
 use native.Mathlib.Omega.{arith}
 use borrow.Author.Tests.{eqb-true, eqb-false, eq-eqb, ne-eqb, ltb-true, ltb-false, lt-ltb, le-ltb}
 use lib.Dec.{eqb, ltb}
 use lib.ListN.{length, drop, length-append, length-drop}
 use Rattle.forms.specs.Lists.{over, when}
+use Rattle.forms.specs.Refusals.{Unless}
 use Rattle.forms.proofs.Booleans.{when-all}
 use Rattle.tape_rules.specs.declared.Tape.{Tape}
 use Rattle.tape_rules.specs.Steps.{Answer, fresh, step}
@@ -143,6 +144,25 @@ module _ (tape : List ℕ) (room : ℕ) where
   run-whole r h = rw (eq-eqb room 65537 r, le-ltb 65536 (length tape) h)
 
 -- ---- in plain terms
+
+-- of whatever is said of a run: 5 unless there are 65,537 bytes for the answers, then 4 unless the tape has at most 65,536, else the tape's answers
+pub run-says : (P : Ran → Type 0) (tape : List ℕ) (room : ℕ) → P (run tape room)
+    → Unless (room ≡ 65537) (P (record { number = 5; written = [] }))
+    (Unless (length tape ≤ 65536) (P (record { number = 4; written = 4 ∷ [] })) (P (record { number = 0; written = tapeAnswers tape })))
+run-says P tape room p = by-tests (eqb room 65537) refl (ltb 65536 (length tape)) refl
+  where
+    by-tests : (b : Bool) → eqb room 65537 ≡ b → (c : Bool) → ltb 65536 (length tape) ≡ c
+        → Unless (room ≡ 65537) (P (record { number = 5; written = [] }))
+        (Unless (length tape ≤ 65536) (P (record { number = 4; written = 4 ∷ [] })) (P (record { number = 0; written = tapeAnswers tape })))
+    by-tests false e c f = let r = eqb-false room 65537 e in inl (r, subst P (run-room tape room r) p)
+    by-tests true e true f =
+        let r = eqb-true room 65537 e in
+        let h = ltb-true 65536 (length tape) f in
+        inr (r, inl (λ k. omega arith, subst P (run-long tape room r h) p))
+    by-tests true e false f =
+        let r = eqb-true room 65537 e in
+        let h = ltb-false 65536 (length tape) f in
+        inr (r, inr (h, subst P (run-whole tape room r h) p))
 
 -- a run's number is 0 exactly when the answers have 65,537 bytes and the tape at most 65,536
 pub run-iff : (tape : List ℕ) (room : ℕ) → (run tape room .number ≡ 0) ↔ ((room ≡ 65537) × (length tape ≤ 65536))
