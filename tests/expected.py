@@ -79,7 +79,8 @@ def rows_to_invert():
     return [*ROWS, *(row for row, _ in random_rows())]
 
 
-# the published row's inverse, as it was given with document 02's Job 5
+# the published row's inverse as README.md, include/labyrinth.h and crates/promise print it. It is ours: no outside paper has it. What is
+# expected of programs is worked out over the archivists' product of two bytes, and this is held to it
 PUBLISHED_INVERSE = bytes.fromhex("35C0C7A99EC62EF3")
 
 
