@@ -65,7 +65,7 @@ TapesTaken = (tape : List ℕ) (answers : ℕ) → (run tape answers .number ≡
 
 -- "Everything else, from any caller, is refused with document 01's number in its order of checks, and what the refusal returns and leaves
 -- in each buffer is fixed there." The numbers in their order are expandRefusal, blockRefusal, cbcRefusal and ctrRefusal, which the operations
--- of demand 2 return for all arguments; the tape's are in `step` and `run`. What a refusal leaves and returns, the tape's step apart:
+-- of demand 2 return for all arguments; the tape's are in `step` and `run`, which write an answer byte too. What a refusal leaves and returns besides:
 abbrev pub BuffersKept : Type 0
 BuffersKept = (number : ℕ) (result before : List ℕ) → (number ≡ 0 → ⊥) → outcome number result before ≡ before
 
