@@ -1,9 +1,15 @@
 #!/usr/bin/env bash
 # The gate: rt ci once, then every other check on what it built. The last line is rt ci's own, printed again only if all passed.
+# With WITHOUT_RUST=1 the Rust crate and the command are not tried, and a line says so; without it cargo and rustc must be here.
 set -u
 cd "$(dirname "$0")/.." || exit 1
+rust="cargo rustc"
+[ "${WITHOUT_RUST:-}" != 1 ] || rust=
 for tool in rt python3 sha256sum cmp awk sort gcc g++ make ar nm readelf; do
     command -v "$tool" >/dev/null || { echo "gate: $tool is not here"; exit 1; }
+done
+for tool in $rust; do
+    "$tool" --version >/dev/null 2>&1 || { echo "gate: $tool is not here, or does not run; WITHOUT_RUST=1 leaves the Rust crate and the command untried"; exit 1; }
 done
 work=$(mktemp -d) || exit 1
 trap 'rm -rf "$work"' EXIT
@@ -27,6 +33,9 @@ tests/must_fail.py || fail "must-fail edits"
 # ---- library crates assume nothing
 tests/axioms.py || fail "assumptions"
 
+# ---- the documents name what is in the tree, and the tree's definitions and operations are in them
+tests/documents.py || fail "the documents"
+
 # ---- the archivists' program is as it was brought
 (cd tests/archivists && sha256sum --quiet --strict -c SHA256SUMS) || fail "tests/archivists was altered"
 
@@ -43,10 +52,10 @@ tests/tapes.py || fail "the tapes"
 make -s lib >"$work/lib" 2>&1 || { tail -n 20 "$work/lib"; fail "make lib"; }
 tests/c_interface.sh || fail "the C interface"
 tests/compare_c.py --short || fail "the comparison through the C interface"
-if cargo --version >/dev/null 2>&1; then
+if [ -n "$rust" ]; then
     tests/rust.sh || fail "the Rust crate and the command"
 else
-    echo "gate: cargo is not here: the Rust crate and the command were not tried"
+    echo "gate: WITHOUT_RUST=1: the Rust crate and the command were not tried"
 fi
 
 # ---- the paper for the successor

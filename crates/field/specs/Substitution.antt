@@ -11,11 +11,12 @@ use Rattle.forms.specs.Lists.{tabulate}
 unfoldable pub sub : List ℕ → ℕ → ℕ
 sub s x = getD s x 0
 
--- 3.7: the inverse of S at y is the place where y stands in the list (the first, counted from 0)
+-- 3.7: the inverse of S at y is the place where y stands in the list, counted from 0: the first such place; the list's length where y isn't in it
 unfoldable pub subInv : List ℕ → ℕ → ℕ
 subInv [] y = 0
 subInv (x ∷ s) y = elim (eqb x y) [ true ↦ 0 | false ↦ suc (subInv s y) ]
 
--- the inverse as a list of 256 bytes
+-- the inverse as a list of 256 numbers, bytes if s is 256 different bytes. Else it is no inverse: for a byte that s has twice it gives the first
+-- place, and for one that s hasn't the length of s, which is no byte if s has 256 entries
 unfoldable pub invert : List ℕ → List ℕ
 invert s = tabulate 256 (subInv s)

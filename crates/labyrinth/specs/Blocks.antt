@@ -25,7 +25,7 @@ each n f x = tabulate n (λ j. f (getD x j 0))
 unfoldable pub zip : ℕ → (ℕ → ℕ → ℕ) → List ℕ → List ℕ → List ℕ
 zip n f x y = tabulate n (λ j. f (getD x j 0) (getD y j 0))
 
--- 1.1, 1.2: a block of 16n bytes in memory: R is the first 8n, L the rest
+-- 1.2: a block is < L || R >; document 01: 'The low half R of a block is its first 8n bytes, the high half L the rest.'
 unfoldable pub load : ℕ → List ℕ → Block
 load n bs = (words n (drop (8 * n) bs), words n bs)
 

@@ -1,4 +1,5 @@
--- The tape is what was read, and its answers fit.
+-- What is lent to `run` and written stands within the buffers: the tape as far as it is said to be read, the answers as far as `run` says. That the
+-- tape is what stood on standard input, and that the answers come to standard output, is not stated; tests/tapes.py tests it.
 -- Assumes nothing.
 use mathlib.Core.Path.{sym, ap}
 use Prim.Native.Nat.{_≤_}

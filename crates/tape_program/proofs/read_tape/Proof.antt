@@ -1,4 +1,4 @@
--- What came stands within the buffer.
+-- As many bytes as it says were read stand within the buffer, and the loop ends. Which bytes they are is not stated.
 -- Assumes nothing.
 use mathlib.Core.Path.{_≡_}
 use Prim.Native.Nat.{_≤_, _-_}
