@@ -43,7 +43,14 @@ bench: lib
 	gcc -std=c11 -O3 -Wall -Wextra -o target/bench bench/bench.c bench/labyrinth.c bench/others.c target/staticlib/libbench_blocks.a target/dist/liblabyrinth.a $$with
 	target/bench
 
+# Needs Debian's groff and ghostscript, which brings fonts-urw-base35. Times of groff's is that package's Nimbus Roman, but groff knows no Cyrillic
+# letters of it; so it is made known once more, as the font CYR. groff works the paper twice, for the page numbers of the contents.
+URW = /usr/share/fonts/type1/urw-base35/NimbusRoman-Regular
+GROFF = groff -Kutf8 -t -ms -Tpdf -P-pa4 -P-e -F target/font
 paper:
-	mkdir -p target
+	mkdir -p target/font/devpdf
+	grep -v ' uni' $(URW).afm >target/font/letters.afm
+	cd target/font/devpdf && afmtodit ../letters.afm /dev/null CYR && printf '\tNimbusRoman-Regular\t$(URW).t1\n' >download
 	tools/paper_to_ms docs/OPENING-A-PAGE.md >target/OPENING-A-PAGE.ms
-	groff -k -t -ms -Tpdf -P-pa4 -P-e target/OPENING-A-PAGE.ms >target/OPENING-A-PAGE.pdf
+	$(GROFF) -z target/OPENING-A-PAGE.ms 2>&1 | grep '^\.nr ' >target/pages.ms
+	$(GROFF) target/pages.ms target/OPENING-A-PAGE.ms >target/OPENING-A-PAGE.pdf

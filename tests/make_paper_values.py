@@ -5,9 +5,12 @@ first line names it; the text around the blocks stays as it is.
     tests/make_paper_values.py            writes the paper anew
     tests/make_paper_values.py --check    fails if the paper's blocks are not what would be written
 """
+import contextlib
+import functools
 import hashlib
 import itertools
 import json
+import operator
 import os
 import re
 import sys
@@ -47,16 +50,22 @@ def word(w):
     return f"0x{w:016X}"
 
 
+def word_line(line, width, words):
+    """A line of words and its check sum, of the words' bytes as they are printed."""
+    return f"{line:<{width}}  : {weighted(b''.join(w.to_bytes(8, 'big') for w in words)):04X}"
+
+
 def word_lines(pairs):
-    """Pairs of a name and a half-block: two names a line where a half-block is one word, else two words a line."""
+    """Pairs of a name and a half-block: two names a line where a half-block is one word, else two words a line; and each line's check sum."""
     if all(len(words) == 1 for _, words in pairs):
-        cells = [f"{name:<13} {word(words[0])}" for name, words in pairs]
-        for at in range(0, len(cells), 2):
-            yield " | ".join(cells[at : at + 2])
+        for at in range(0, len(pairs), 2):
+            two = pairs[at : at + 2]
+            yield word_line(" | ".join(f"{name:<11} {word(words[0])}" for name, words in two), 63, [words[0] for _, words in two])
     else:
         for name, words in pairs:
             for at in range(0, len(words), 2):
-                yield f"{name:<13} " + " ".join(word(w) for w in words[at : at + 2])
+                two = words[at : at + 2]
+                yield word_line(f"{name:<11} " + " ".join(map(word, two)), 49, two)
 
 
 # ---- the tables
@@ -320,6 +329,40 @@ def card():
     yield from (f"n        {n}", f"l        {l}", f"key      {digits(key)}", "mode     CTR", f"start    {digits(start)}", "q        0")
     yield from (f"length   {len(sealed)}", "")
     yield from (f"sealed   {digits(sealed[at : at + 16])}" for at in range(0, len(sealed), 16))
+
+
+# ---- tables of an archive's own
+
+def own_tables():
+    """A row and a substitution that are not the published ones: made up, and no advice."""
+    row = bytes_of("card row", 8)
+    if functools.reduce(operator.xor, row) == 0:
+        raise SystemExit("make_paper_values.py: the row XORs to zero")
+    return row, bytes(sorted(range(256), key=lambda x: hashlib.sha256(f"card substitution {x}".encode()).digest()))
+
+
+@contextlib.contextmanager
+def with_tables(row, substitution):
+    """The archivists' program with another row and another substitution for the while."""
+    other = dict(G=list(row), S=list(substitution), S_INV=[substitution.index(y) for y in range(256)])
+    other["TL"] = [lab.bytes_to_word([lab.gf_mul(g, x) for g in row]) for x in range(256)]
+    before = {name: getattr(lab, name) for name in other}
+    for name, part in other.items():
+        setattr(lab, name, part)
+    try:
+        yield
+    finally:
+        for name, part in before.items():
+            setattr(lab, name, part)
+
+
+def card_tables():
+    """What tables of an archive's own add to the card, and the page sealed with them."""
+    row, substitution = own_tables()
+    with with_tables(row, substitution):
+        sealed = card_run()[-1]
+    for name, data in (("row", row), ("subst", substitution), ("sealed", sealed)):
+        yield from (f"{name:<8} {digits(data[at : at + 16])}" for at in range(0, len(data), 16))
 
 
 # ---- tags
@@ -720,6 +763,7 @@ def values():
         "vectors-cmac": cmac_vectors(),
         "card": card(),
         "card-tag": card_tag(),
+        "card-tables": card_tables(),
         "tape": tape(),
         "wrong-readings": wrong_readings(),
         "wrong-readings-ctr": wrong_counters(),
@@ -738,7 +782,7 @@ def main(words):
     if words not in ([], ["--check"]):
         raise SystemExit(__doc__)
     made = values()
-    with open(PAPER) as file:
+    with open(PAPER, encoding="utf-8") as file:
         text = file.read()
     there = [match[1] for match in FENCE.finditer(text)]
     if sorted(there) != sorted(made):
@@ -747,7 +791,7 @@ def main(words):
     if words and new != text:
         raise SystemExit("make_paper_values.py: the paper's values are not what the archivists' program gives")
     if not words and new != text:
-        with open(PAPER, "w") as file:
+        with open(PAPER, "w", encoding="utf-8") as file:
             file.write(new)
     print(f"make_paper_values: {len(made)} blocks, {sum(v.count(chr(10)) for v in made.values())} lines")
 

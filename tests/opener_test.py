@@ -2,8 +2,10 @@
 """tests/opener.py, a program written from docs/OPENING-A-PAGE.md's first edition alone, opens what our library sealed: random pages, all nine
 sizes, CBC and CTR, through target/dist/liblabyrinth.a, which `make lib` makes. tests/verifier.py, written from the second edition and the opener
 alone, makes the tags that our library makes, and both say yes and no to the same. Both programs agree with the values of the paper, the opener of the
-tags with what E gives; they open the paper's card and verify its tag. Then what must be noticed: an altered sealed byte, an altered bit of tag, message
-or key, another key, a wrong counter, wrong masks, an altered paper.
+tags with what E gives; they open the paper's card and verify its tag, and the opener with other tables opens the card that has tables of its own. Then
+what must be noticed: an altered sealed byte, an altered bit of tag, message or key, another key, a wrong counter, wrong masks, an altered paper.
+
+Word lines have check sums since the fourth edition; the opener does not know them, and gets the paper without them. tests/paper.py holds them.
 
     tests/opener_test.py [SEED]    a seed to repeat a run; without it a new one, which is printed
 """
@@ -12,6 +14,7 @@ import hashlib
 import io
 import os
 import random
+import re
 import subprocess
 import sys
 import tempfile
@@ -32,7 +35,8 @@ WRITTEN = {
     VERIFIER: "8ce88397172defc8fe2f7cde41836263f3be50de593d9884f5e276fc84ceba40",
 }
 CHECKED = {OPENER: "996 checked", VERIFIER: "209 compared"}  # what each program's own check says of the paper
-COUNTS = {"CBC pages": 45, "CTR pages": 171, "tags": 315, "tags that get a no": 678, "refusals": 18, "alterations": 114}
+COUNTS = {"CBC pages": 45, "CTR pages": 171, "tags": 315, "tags that get a no": 678, "refusals": 18, "alterations": 121}
+WORD_SUM = re.compile(r"^(\S.* 0x[0-9A-F]{16}) +: [0-9A-F]{4}$", re.M)  # a word line with its check sum
 FAILURES = []
 COUNTED = dict.fromkeys(COUNTS, 0)
 
@@ -215,9 +219,22 @@ def command(program, *words):
     return subprocess.run([sys.executable, "-B", program, *words], capture_output=True, text=True, timeout=60)
 
 
-def checked(program):
+def written(copy, text):
+    with open(copy, "w", encoding="utf-8") as file:
+        file.write(text)
+    return copy
+
+
+def without_sums(text):
+    """The paper as the opener reads it: word lines without check sums."""
+    without, count = WORD_SUM.subn(r"\1", text)
+    same("the word lines", count, paper.SUMMED[1])
+    return without
+
+
+def checked(program, text):
     """The program's own check of the paper."""
-    done = command(program, "check", paper.PAPER)
+    done = command(program, "check", text)
     last = [" ".join(line.split()) for line in done.stdout.splitlines()[-1:]]
     same(f"the check of {os.path.basename(program)}", (done.returncode, last), (0, [f"all {CHECKED[program]}, 0 different"]))
 
@@ -237,22 +254,55 @@ def altered_tags(text, blocks, rng):
         yield said, text.replace(said, other)
 
 
+@contextlib.contextmanager
+def other_tables(row, substitution):
+    """The opener with another row and another substitution for the while, put where the paper says."""
+    other = dict(ROW=list(row), S=substitution, S_INVERSE=bytes(substitution.index(y) for y in range(256)))
+    other["PRODUCTS"] = [int.from_bytes(bytes(opener.product(g, b) for g in row), "little") for b in range(256)]
+    before = {name: getattr(opener, name) for name in other}
+    for name, part in other.items():
+        setattr(opener, name, part)
+    try:
+        yield
+    finally:
+        for name, part in before.items():
+            setattr(opener, name, part)
+
+
+def own_tables(text, said):
+    """The card with tables of its own: the opener, with these tables, opens its page; with a published one in the place of either it does not."""
+    n, l, q = (int(said[name]) for name in ("n", "l", "q"))
+    tables = {}
+    for line in text.splitlines():
+        name, value = line.split(maxsplit=1)
+        tables[name] = tables.get(name, b"") + bytes.fromhex(value)
+    row, substitution, sealed = tables["row"], tables["subst"], tables["sealed"]
+    opened = lambda: opener.run("open", "ctr", n, l, bytes.fromhex(said["key"]), bytes.fromhex(said["start"]), q, sealed)
+    with other_tables(row, substitution):
+        letters = opened()
+        same("mixing 1 by the row", opener.mix(1), int.from_bytes(row, "little"))
+    same("the page of tables of its own", letters, make_paper_values.TEXT[: len(sealed)].encode("ascii"))
+    for name, *others in (("published tables", opener.ROW, opener.S), ("the published row", opener.ROW, substitution), ("the published substitution", row, opener.S)):
+        with other_tables(*others):
+            differ(f"the card's tables: {name}", opened(), letters)
+
+
 def with_the_paper(place, rng):
-    with open(paper.PAPER) as file:
+    with open(paper.PAPER, encoding="utf-8") as file:
         text = file.read()
-    for program in CHECKED:
-        checked(program)
-    # an altered paper
+    plain, copy = os.path.join(place, "without.md"), os.path.join(place, "altered.md")
+    known = without_sums(text)
+    checked(OPENER, written(plain, known))
+    checked(VERIFIER, paper.PAPER)
+    # an altered paper: a digit near the end of a block
     blocks = {match[1]: match for match in paper.FENCE.finditer(text)}
-    middle = blocks["vectors-mixed"].end() - 20
-    digit = next(i for i in range(middle, 0, -1) if text[i] in "0123456789")
-    copy = os.path.join(place, "altered.md")
-    with open(copy, "w") as file:
-        file.write(text[:digit] + str((int(text[digit]) + 1) % 10) + text[digit + 1 :])
-    differ("an altered paper", command(OPENER, "check", copy).returncode, 0)
+    ends = {match[1]: match.end() for match in paper.FENCE.finditer(known)}
+    for name in ("vectors-mixed", "trace-1-expansion", "trace-1-rounds", "trace-2-it", "trace-4-rounds"):
+        digit = next(i for i in range(ends[name] - 20, 0, -1) if known[i] in "0123456789")
+        written(copy, known[:digit] + str((int(known[digit]) + 1) % 10) + known[digit + 1 :])
+        differ(f"an altered paper: {name}", command(OPENER, "check", copy).returncode, 0)
     for line, other in altered_tags(text, blocks, rng):
-        with open(copy, "w") as file:
-            file.write(other)
+        written(copy, other)
         with contextlib.redirect_stdout(io.StringIO()):
             status = verifier.check(copy)
         differ(f"an altered paper: {line}", status, 0)
@@ -286,6 +336,7 @@ def with_the_paper(place, rng):
     with open(opened, "rb") as file:
         letters = file.read().decode("ascii", "replace")
     same("the card's page is in the text", f'as ASCII: "{letters}"\n' in text, True)
+    own_tables(blocks["card-tables"][2], said)
     # its tag
     said = dict(line.split(maxsplit=1) for line in blocks["card-tag"][2].splitlines())
     words, tag = ["-l", said["tag-l"], "--key", said["tag-key"]], bytes.fromhex(said["tag"])

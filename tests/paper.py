@@ -1,9 +1,11 @@
 #!/usr/bin/env python3
 """Reads every value out of docs/OPENING-A-PAGE.md and holds it to both programs: the archivists' (all values, step by step) and ours (what the
 library's functions give), through target/dist/liblabyrinth.a, which `make lib` makes; the tape to target/bin/tape_program, which `make run` makes.
-Then alters a digit in each line of each block in turn: each must be noticed."""
+Then alters a digit in each line of each block in turn: each must be noticed. In each line that has a check sum it alters every digit, and exchanges
+every two bytes that differ: the check sum alone must show it. And it holds the paper's contents, editions and article to what they are taken from."""
 import ctypes
 import functools
+import itertools
 import os
 import re
 import subprocess
@@ -16,6 +18,7 @@ ROOT = os.path.dirname(HERE)
 PAPER = os.path.join(ROOT, "docs", "OPENING-A-PAGE.md")
 ARCHIVE = os.path.join(ROOT, "target", "dist", "liblabyrinth.a")
 PROGRAM = os.path.join(ROOT, "target", "bin", "tape_program")
+HEADER = os.path.join(ROOT, "include", "labyrinth.h")
 sys.path[:0] = [os.path.join(HERE, "archivists"), HERE]
 import labyrinth as lab
 import make_paper_values
@@ -25,11 +28,13 @@ from papers import EXAMPLE, LONGEST, SIZES, WIDTH, command, set_key
 
 FENCE = re.compile(r"^```([a-z0-9-]+)\n(.*?)^```$", re.M | re.S)
 BYTE_LINE = re.compile(r"^(\S+) +((?:[0-9A-F]{2}){1,4}(?: (?:[0-9A-F]{2}){1,4}){0,3}) +: ([0-9A-F]{4})$")
+WORD_LINE = re.compile(r"^(\S.*\S) +: ([0-9A-F]{4})$")
 WORD_CELL = re.compile(r"^(\S+) +(0x[0-9A-F]{16}(?: 0x[0-9A-F]{16})?)$")
 READ = {
-    "blocks": 28, "byte strings": 195, "half-blocks": 396, "block vectors": 18, "CBC runs": 3, "CTR runs": 7, "traced blocks": 3, "tags": 8,
+    "blocks": 29, "byte strings": 195, "half-blocks": 396, "block vectors": 18, "CBC runs": 3, "CTR runs": 7, "traced blocks": 3, "tags": 8,
     "flipped bits of tags and messages": 2080, "tapes": 514,
 }
+SUMMED = [440, 354, 16]  # lines with check sums: of bytes, of words, of Table 1
 
 
 class Fault(Exception):
@@ -117,13 +122,32 @@ def their(name, n, key, *rest):
 
 # ---- reading
 
+def check_sum(data):
+    return f"{sum(i * b for i, b in enumerate(data, 1)):04X}"
+
+
 def byte_line(line):
     match = BYTE_LINE.match(line)
     if not match:
         raise Fault(f"no byte line: {line}")
     data = bytes.fromhex(match[2])
-    same(f"the check sum of '{line}'", match[3], f"{sum(i * b for i, b in enumerate(data, 1)):04X}")
+    same(f"the check sum of '{line}'", match[3], check_sum(data))
     return match[1], data
+
+
+def word_line(line):
+    """Pairs of a name and its words. The check sum is of the words' bytes as they are printed."""
+    match = WORD_LINE.match(line)
+    cells = [WORD_CELL.match(cell.strip()) for cell in match[1].split(" | ")] if match else [None]
+    if not all(cells):
+        raise Fault(f"no words: {line}")
+    digits = "".join(cell[2] for cell in cells).replace("0x", "").replace(" ", "")
+    same(f"the check sum of '{line}'", match[2], check_sum(bytes.fromhex(digits)))
+    return [(cell[1], [int(w, 16) for w in cell[2].split()]) for cell in cells]
+
+
+def has_words(line):
+    return "0x" in line
 
 
 def strings(lines):
@@ -144,15 +168,11 @@ def half_blocks(lines, n):
     """Word lines, as pairs of a name and n words."""
     cells = []
     for line in lines:
-        for cell in line.split(" | "):
-            match = WORD_CELL.match(cell)
-            if not match:
-                raise Fault(f"no words: {line}")
-            words = [int(w, 16) for w in match[2].split()]
-            if cells and cells[-1][0] == match[1] and len(cells[-1][1]) < n:
+        for name, words in word_line(line):
+            if cells and cells[-1][0] == name and len(cells[-1][1]) < n:
                 cells[-1][1].extend(words)
             else:
-                cells.append((match[1], words))
+                cells.append((name, words))
     for name, words in cells:
         same(f"the words of {name}", len(words), n)
     COUNTED["half-blocks"] += len(cells)
@@ -176,17 +196,23 @@ def bytes_and_words(lines, n, front):
 
 # ---- tables and parts
 
+def table_line(line):
+    """A line of Table 1: its head and its entries."""
+    front, total = line.split(" : ")
+    name, *values = front.split()
+    values = [int(v, 16) for v in values]
+    same(f"the check sum of line {name}", total, check_sum(values))
+    return name, values
+
+
 def table_1(text):
     lines = text.splitlines()
     same("the head of Table 1", lines[0].split(), [*(f"{c:02X}" for c in range(16)), "sum"])
     same("the lines of Table 1", len(lines), 17)
     entries = []
     for row, line in enumerate(lines[1:]):
-        front, total = line.split(" : ")
-        name, *values = front.split()
+        name, values = table_line(line)
         same("the head of a line", name, f"{16 * row:02X}")
-        values = [int(v, 16) for v in values]
-        same(f"the check sum of line {name}", total, f"{sum(i * b for i, b in enumerate(values, 1)):04X}")
         entries += values
     same("Table 1", entries, lab.S)
     same("Table 1's bytes", sorted(entries), list(range(256)))
@@ -288,7 +314,7 @@ def steps(k, x):
 def expansion_of(n, l, whole):
     def check(text):
         first, *rest = records(text)
-        (name, key), = strings([line for line in first if " : " in line])
+        (name, key), = strings([line for line in first if not has_words(line)])
         same("the key's name and length", (name, len(key)), ("key", 8 * n * l))
         TRACED.setdefault(n, {})["key"] = key
         uk = split(n, key)
@@ -298,7 +324,7 @@ def expansion_of(n, l, whole):
         wanted = [*((f"k_{j}", k[j]) for j in range(l)), ("XOR", total), ("register", register)]
         if not whole:
             wanted += [(f"k_{j}", k[j]) for j in range(l, 8)]
-        same("the expansion", half_blocks([line for line in first if " : " not in line], n), wanted)
+        same("the expansion", half_blocks([line for line in first if has_words(line)], n), wanted)
         same("the steps of the expansion", len(rest), 8 - l if whole else 0)
         for j, lines in enumerate(rest, l):
             register = lab.delta(register)
@@ -317,7 +343,7 @@ def turn(a, b):
 def it_of(n):
     def check(text):
         lines = text.splitlines()
-        front = sum(" : " in line for line in lines)
+        front = sum(not has_words(line) for line in lines)
         ((name, block),), cells = bytes_and_words(lines, n, front)
         same("the block's name and length", (name, len(block)), ("block", 16 * n))
         TRACED[n]["block"] = block
@@ -371,7 +397,7 @@ def ft_of(n, l):
     def check(text):
         wk, state = states(n)
         lines = text.splitlines()
-        front = sum(" : " not in line for line in lines)
+        front = sum(has_words(line) for line in lines)
         cells, ((name, sealed),) = half_blocks(lines[:front], n), strings(lines[front:])
         same("the name", name, "sealed")
         left, right = state[16][1], state[16][0]
@@ -561,6 +587,33 @@ def card_tag(text):
     tagged(int(said["tag-l"]), bytes.fromhex(said["tag-key"]), TRACED["card"]["sealed"], tag)
 
 
+def card_tables(text):
+    """What tables of an archive's own add to the card: its page opens with them, and is noise with the published ones."""
+    said = {}
+    for line in text.splitlines():
+        name, value = line.split(maxsplit=1)
+        said[name] = said.get(name, b"") + bytes.fromhex(value)
+    same("what the card says", list(said), ["row", "subst", "sealed"])
+    row, substitution, sealed = said.values()
+    same("256 different bytes, not Table 1", (sorted(substitution), list(substitution) == lab.S), ([*range(256)], False))
+    same("eight coefficients that don't XOR to zero, not the published ones", (len(row), functools.reduce(int.__xor__, row) > 0, list(row) == lab.G), (8, True, False))
+    n, l, key, start, other = make_paper_values.card_run()
+    plain = make_paper_values.TEXT[: len(other)].encode("ascii")
+    opened = lambda: modes.ctr_crypt(lab.Labyrinth(n, key), start, 0, sealed)
+    with make_paper_values.with_tables(row, substitution):
+        same("theirs, opened with these tables", opened(), plain)
+        same("mixed 1", lab.word_to_bytes(lab.cmbn_poly(1)), [*row])
+        eight = 0x0123456789ABCDEF
+        for _ in range(8):
+            eight = lab.cmbn_poly(eight)
+    power = functools.reduce(int.__xor__, row)
+    for _ in range(3):
+        power = lab.gf_mul(power, power)
+    same("mixed eight times", lab.word_to_bytes(eight), [lab.gf_mul(b, power) for b in lab.word_to_bytes(0x0123456789ABCDEF)])
+    noise = (opened(), our("ctr", n, l, key, start, sealed, q=0))
+    same("noise with the published tables, by theirs and ours", (noise[0] == noise[1], sum(a == b for a, b in zip(noise[0], plain)) < 5), (True, True))
+
+
 # ---- tapes
 
 MIX, END, WRONG = command(0x05, bytes(range(8))), papers.END, b"\x01" * 128
@@ -666,6 +719,7 @@ CHECKS = {
     "vectors-cmac": cmac,
     "card": card,
     "card-tag": card_tag,
+    "card-tables": card_tables,
     "tape": tape,
     "wrong-readings": wrong_readings,
     "wrong-readings-ctr": wrong_by("wrong_counters"),
@@ -697,7 +751,13 @@ def sentences():
     yield "each byte multiplied by `46`"
     yield "mixing eight times multiplies every byte by `46`"
     yield f"the bytes `{' '.join(f'{i:02X}' for i in range(8))}` are the word 0x{lab.bytes_to_word(list(range(8))):016X}"
-    yield f"the line `01 02 03` has the check sum 1 + 4 + 9 = 14, written `{sum(i * i for i in (1, 2, 3)):04X}`"
+    yield f"the line `01 02 03` has the check sum 1 + 4 + 9 = 14, written `{check_sum((1, 2, 3))}`"
+    counting = make_paper_values.word(int.from_bytes(bytes(range(1, 9)), "big"))
+    total = sum(i * i for i in range(1, 9))
+    yield f"a line with the one word {counting} has 1 + 4 + 9 + 16 + 25 + 36 + 49 + 64 = {total}, written `{total:04X}`"
+    by = functools.reduce(int.__xor__, lab.G)
+    eighth = functools.reduce(lambda power, _: lab.gf_mul(power, power), range(3), by)
+    yield f"with the published row the XOR is `{by:02X}` and its eighth power `{eighth:02X}`"
     yield "\n\n1. The sum of the products is rotated"
     yield f"\n{len(made('wrong_readings'))}. FT adds its key.\n\n"
     yield f"\n\n{len(made('wrong_readings')) + 1}. The counter is carried from byte 0 up"
@@ -747,21 +807,88 @@ def sentences():
     yield "; ".join(f"{length} bytes are {' or '.join(sizes)}" for length, sizes in sorted(by.items()) if len(sizes) == 2) + "."
 
 
+# ---- the head, the contents, the editions and the article
+
+NAMES = "first second third fourth fifth sixth seventh eighth ninth tenth".split()
+# what the article's copy prints of itself
+ARTICLE = {
+    "author": "С.А. Головашич",
+    "author's place": "ООО Криптомаш, Харьков",
+    "title": "АЛГОРИТМ БЛОЧНОГО СИММЕТРИЧНОГО ШИФРОВАНИЯ «ЛАБИРИНТ»",
+    "UDC": "УДК 681.3.06 : 519.248.681",
+    "key words": "криптозащита, блочное симметричное шифрование, поточное шифрование",
+    "received": "Поступила в редколлегию 19.04.2007",
+    "reviewer": "Рецензент: д-р. техн. наук, проф. О.Г. Руденко, Харьковский национальный университет радиоэлектроники, Харьков",
+}
+
+
+def sections(text):
+    return re.findall(r"^# (\d+\. .*)$", text, re.M)
+
+
+def contents(text):
+    """The list behind 'Contents' has the sections, all of them and in order."""
+    listed = re.search(r"^\*\*Contents\*\*\n\n((?:\d+\. .*\n)+)\n", text, re.M)
+    same("the contents", listed and listed[1].splitlines(), sections(text))
+    same("the sections' numbers", [int(line.split(".")[0]) for line in sections(text)], [*range(1, 15)])
+
+
+def article(text):
+    for what, printed in ARTICLE.items():
+        same(f"the article's {what}", f"\n| {what} | {printed} | " in text, True)
+
+
+def version():
+    """The library's version: one in the header and for Rust, 0.k.0 with k landings in the changelog from the first release on, whose newest may be unwritten."""
+    def found(pattern, *path):
+        with open(os.path.join(ROOT, *path), encoding="utf-8") as file:
+            return re.findall(pattern, file.read(), re.M)
+    (stated,) = found(r'^#define LABYRINTH_VERSION "(.*)"$', HEADER)
+    for crate in ("labyrinth", "labyrinth-cli"):
+        same(f"the version of rust/{crate}", found(r'^version = "(.*)"$', "rust", crate, "Cargo.toml"), [stated])
+    landings = found(r"^## (.*)$", "CHANGELOG.md")
+    count = landings.index("First release: 0.1.0") + 1
+    same(f"the version for {count} landings", stated in (f"0.{count}.0", f"0.{count + 1}.0"), True)
+    return [int(part) for part in stated.split(".")]
+
+
+def editions(text):
+    """Each edition has a date and a version; the last is the one in the head, and not of a later version than the library's."""
+    rows = re.findall(r"^\| (\w+) \| (\d{4}-\d\d-\d\d) \| (\d+\.\d+\.\d+) \| ", text, re.M)
+    names, dates, versions = zip(*rows)
+    numbers = [[int(part) for part in version.split(".")] for version in versions]
+    same("the editions", (list(names), len(names) >= 4), (NAMES[: len(names)], True))
+    same("dates and versions in order", (list(dates), numbers), (sorted(dates), sorted(numbers)))
+    same("a version each", len(set(versions)), len(versions))
+    same("the paper's version is not later than the library's", numbers[-1] <= version(), True)
+    head = f"\nedition: {names[-1].capitalize()} edition, {dates[-1]}, with version {versions[-1]} of the library Sigourta\n---\n"
+    same("the edition in the head", head in text, True)
+    same("the edition in the text", f"This is the paper's {names[-1]} edition." in text, True)
+
+
 # ---- print
 
-def print_fault(blocks):
-    """What is wrong with the form for print: every line of every block must be in it, in order."""
-    done = subprocess.run([os.path.join(ROOT, "tools", "paper_to_ms"), PAPER], capture_output=True, text=True, timeout=60)
+def print_fault(text, blocks):
+    """What is wrong with the form for print: every line of every block must be in it, in order; a page number for each section; the article's letters."""
+    done = subprocess.run([os.path.join(ROOT, "tools", "paper_to_ms"), PAPER], capture_output=True, encoding="utf-8", timeout=60)
     if done.returncode:
         return done.stderr
-    printed = iter(done.stdout.replace("\\-", "-").splitlines())
+    form = done.stdout.replace("\\-", "-")
+    printed = iter(form.splitlines())
     for line in (line for block in blocks.values() for line in block.splitlines() if line):
         if "\\&" + line not in printed:
             return f"not in print: {line}"
-    return None
+    for number in range(1, len(sections(text)) + 1):
+        if form.count(f"\\n[page:{number}]\n") != 1 or form.count(f".nr page:{number} \\n%\n") != 1:
+            return f"no page number of section {number}"
+    return next((f"not in print: {printed}" for printed in ARTICLE.values() if printed not in form), None)
 
 
 # ---- altered digits
+
+def next_digit(digit):
+    return "0" if digit == "9" else "A" if digit == "F" else chr(ord(digit) + 1)
+
 
 def altered(text):
     """Each line in turn with one digit exchanged for another; which digit goes round with the line's number."""
@@ -770,8 +897,46 @@ def altered(text):
         digits = [i for match in re.finditer(r"\b(?:0x)?([0-9A-F]+)\b", line) for i in range(*match.span(1))]
         if digits:
             i = digits[7 * at % len(digits)]
-            other = "0" if line[i] == "9" else "A" if line[i] == "F" else chr(ord(line[i]) + 1)
-            yield line, "\n".join([*lines[:at], line[:i] + other + line[i + 1 :], *lines[at + 1 :]]) + "\n"
+            yield line, "\n".join([*lines[:at], line[:i] + next_digit(line[i]) + line[i + 1 :], *lines[at + 1 :]]) + "\n"
+
+
+# ---- what the check sums show
+
+def readers(blocks):
+    """Every line that has a check sum, the places of its bytes in it, and what reads such a line."""
+    for name, block in blocks.items():
+        for line in block.splitlines():
+            total = re.search(r" +: [0-9A-F]{4}$", line)
+            if not total:
+                continue
+            if name == "table-1":
+                yield line, [match.start() for match in re.finditer(r"(?<= )[0-9A-F]{2}(?= )", line[: total.start() + 1])], table_line
+            elif has_words(line):
+                yield line, [at for match in re.finditer(r"0x([0-9A-F]{16})", line) for at in range(*match.span(1), 2)], word_line
+            else:
+                start, end = BYTE_LINE.match(line).span(2)
+                yield line, [start + match.start() for match in re.finditer(r"[0-9A-F]{2}", line[start:end])], byte_line
+
+
+def sums_show(blocks):
+    """Each digit of each such line altered in turn, then each two of its bytes that differ exchanged: how many lines of bytes, lines of words and
+    alterations there were. The line alone must show it."""
+    counts, tried = {byte_line: 0, word_line: 0, table_line: 0}, 0
+    for line, places, reader in readers(blocks):
+        reader(line)
+        counts[reader] += 1
+        other = [line[:at] + next_digit(line[at]) + line[at + 1 :] for place in places for at in (place, place + 1)]
+        for a, b in itertools.combinations(places, 2):
+            if line[a : a + 2] != line[b : b + 2]:
+                other.append(line[:a] + line[b : b + 2] + line[a + 2 : b] + line[a : a + 2] + line[b + 2 :])
+        for altered_line in other:
+            try:
+                reader(altered_line)
+            except Fault:
+                continue
+            raise Fault(f"an alteration that no check sum shows: {altered_line}, for {line}")
+        tried += len(other)
+    return [*counts.values()], tried
 
 
 COUNTED = dict.fromkeys(READ, 0)
@@ -780,7 +945,7 @@ COUNTED = dict.fromkeys(READ, 0)
 def main():
     global LIBRARY
     failures = []
-    with open(PAPER) as file:
+    with open(PAPER, encoding="utf-8") as file:
         text = file.read()
     blocks = {}
     for match in FENCE.finditer(text):
@@ -803,15 +968,26 @@ def main():
     failures += [f"not in the text: {sentence}" for sentence in said if sentence not in text]
     wide = [line for block in blocks.values() for line in block.splitlines() if len(line) > 72]
     failures += [f"too wide: {line}" for line in wide]
-    failures += [fault for fault in [print_fault(blocks)] if fault]
+    failures += [fault for fault in [print_fault(text, blocks)] if fault]
+    for check in (contents, article, editions):
+        try:
+            check(text)
+        except Fault as fault:
+            failures.append(f"{check.__name__}: {fault}"[:400])
     if blocks != make_paper_values.values():
         failures.append("the blocks are not what tests/make_paper_values.py makes")
     if not failures and COUNTED != READ:
         failures.append(f"read: {COUNTED}, not {READ}")
     counts = ", ".join(f"{count} {what}" for what, count in COUNTED.items())
     # altered digits: only where all else is right
-    tried = 0
+    tried, sums = 0, ""
     if not failures:
+        try:
+            lines, count = sums_show(blocks)
+            same("lines with check sums, of bytes, of words and of Table 1", lines, SUMMED)
+            sums = "{}, {} and {} lines of bytes, words and Table 1 with check sums, which show {} alterations; ".format(*lines, count)
+        except Fault as fault:
+            failures.append(str(fault))
         for name, check in CHECKS.items():
             keep = {n: dict(v) for n, v in TRACED.items()}
             for line, changed in altered(blocks[name]):
@@ -825,7 +1001,7 @@ def main():
                 TRACED.update({n: dict(v) for n, v in keep.items()})
     for failure in failures:
         print(f"paper: FAILED: {failure}")
-    print(f"paper: {counts}, {len(said)} sentences; {tried} altered digits tried; {len(failures)} failures")
+    print(f"paper: {counts}, {len(said)} sentences; {sums}{tried} altered digits tried; {len(failures)} failures")
     sys.exit(1 if failures or not tried else 0)
 
 
