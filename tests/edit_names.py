@@ -1,7 +1,8 @@
 #!/usr/bin/env python3
 """Holds docs/CONTRACTS.md to the tree. A must-fail edit is named there as `label` in the 'ruled out' column of a function of its own crate, or as
 `crate/label` anywhere. Every edit is named, every name is an edit, an operation on offer names two at least, and every public function of a
-library has a row. The crate of a row is what stands before `::`, or else the one that the heading names."""
+library has a row. The crate of a row is what stands before `::`, or else the one that the heading names. A label ends in _in_the_definition
+exactly if its edit is of specs/, but for the crate `promise`, which has no code."""
 import glob
 import os
 import re
@@ -10,6 +11,7 @@ import sys
 PAGE = "docs/CONTRACTS.md"
 # its functions are for the benchmark alone, and the page says so in a sentence
 NO_ROWS = ("bench_blocks",)
+NO_CODE = ("promise",)
 
 edits = {(path.split("/")[1], os.path.basename(path)[: -len(".edit")]) for path in glob.glob("crates/*/must-fail/*.edit")}
 functions = set()
@@ -26,6 +28,11 @@ def wrong(what):
     bad += 1
     print(f"edit_names: {what}")
 
+
+for crate, label in sorted(edits):
+    text = open(f"crates/{crate}/must-fail/{label}.edit").read()
+    if crate not in NO_CODE and ("\nfile: specs/" in "\n" + text) != label.endswith("_in_the_definition"):
+        wrong(f"crates/{crate}/must-fail/{label}.edit: its name does not say whether it is of code or of a definition")
 
 named, rowed, offered = set(), set(), 0
 part, heading, column = "", None, None
