@@ -27,6 +27,9 @@ echo "gate: rt ci took $(($(date +%s) - began)) s"
 # ---- the layout
 rt fmt --check >"$work/fmt" 2>&1 || { cat "$work/fmt"; fail "rt fmt --check"; }
 
+# ---- must-fail edits: each is named in docs/CONTRACTS.md, and each name there is an edit
+tests/edit_names.py || fail "the names of the edits"
+
 # ---- must-fail edits: each was refused because a fact no longer holds
 tests/must_fail.py || fail "must-fail edits"
 
