@@ -4,9 +4,10 @@
     - every path in backquotes in README.md and docs/*.md is there (in target/, where things are made, nothing is looked for);
     - every name in backquotes in docs/READING.md and docs/CONTRACTS.md is defined in the tree; of an expression every name is in its code;
     - every definition of crates/*/specs that the contract of a public function of a library names, and every one that these are made of,
-      stands in backquotes in docs/READING.md, as Module.name where two modules have one of that name;
-    - every public function of a library stands in the first column of a table of docs/CONTRACTS.md, as crate::name or, of the library for
-      C, by its name, and has an `ensures` and no `requires`; those of bench_blocks state no result.
+      stands in backquotes in docs/READING.md, as Module.name where two modules have one of that name; and every statement of the promise;
+    - every public function of a library has an `ensures` and no `requires`; those of bench_blocks state no result.
+
+tests/edit_names.py holds the rows of docs/CONTRACTS.md to the public functions, and the edits named there to those of the tree.
 
     tests/documents.py [ROOT]              of the tree at ROOT, else of this one
     tests/documents.py --reached [ROOT]    lists the definitions that the third check asks for
@@ -85,7 +86,8 @@ def paths_wrong():
     kept = {os.path.basename(path) for path in glob.glob("**", recursive=True)}
     for document in ["README.md", *sorted(glob.glob("docs/*.md"))]:
         for path in sorted(spans(document)[0] - kept):
-            places = (front + path.replace("/NAME/", "/*/") for front in ("", "crates/", "crates/*/"))
+            places = [front + path.replace("/NAME/", "/*/") for front in ("", "crates/", "crates/*/")]
+            places.append("crates/" + path.replace("/", "/must-fail/", 1) + ".edit")
             if not path.startswith("target/") and not any(glob.glob(place) for place in places):
                 yield f"{document}: {path} is not there"
 
@@ -96,6 +98,7 @@ def names_wrong(document, texts, public):
     for path, text in code:
         defined |= set(re.findall(DEFINED[os.path.splitext(path)[1]], text, re.M))
         defined |= {name for listed in re.findall(r"use (?!Rattle)[\w.]+\.\{(.*?)\}", text) for name in listed.split(", ")}
+    defined |= {os.path.basename(path)[: -len(".edit")] for path in glob.glob("crates/*/must-fail/*.edit")}
     words = defined | {word for _, text in code for word in re.findall(WORD, text)}
     for span in sorted(spans(document)[1]):
         head = re.sub(r"\(.*\)$", "", span)
@@ -116,11 +119,7 @@ def definitions_wrong(asked):
 
 
 def functions_wrong(public):
-    columns = re.findall(r"^\|([^|]*)\|", read("docs/CONTRACTS.md"), re.M)
-    shown = {(crate, name) for c in columns for crate in re.findall(r"(\w+)::", c) or ["C"] for name in re.findall(r"`(?:\w+::)?(\w+)", c)}
     for (crate, name), contract in public.items():
-        if (crate if not crate.endswith("_c") else "C", name) not in shown:
-            yield f"docs/CONTRACTS.md: no line for {crate}::{name}"
         if "ensures" not in contract or "requires" in contract:
             yield f"crates/{crate}: the contract of {name} has no ensures, or a requires"
 
@@ -132,11 +131,12 @@ def main(words):
     asked, public = reached(texts, uses), {(crate, name): contract for crate, name, contract, _ in functions() if crate != "bench_blocks"}
     if listing:
         return print(*(" ".join(one) for one in asked), sep="\n")
-    wrong = [*paths_wrong(), *definitions_wrong(asked), *functions_wrong(public)]
+    promised = [one for one in texts if one[0] == "promise"]
+    wrong = [*paths_wrong(), *definitions_wrong(asked), *definitions_wrong(promised), *functions_wrong(public)]
     wrong += [line for document in ("docs/READING.md", "docs/CONTRACTS.md") for line in names_wrong(document, texts, public)]
     if wrong or not asked or not public:
         raise SystemExit("\n".join(f"documents: {line}" for line in wrong or ["nothing to hold them to"]))
-    print(f"documents: {len(asked)} definitions that contracts reach and {len(public)} public functions are in them, and what they name is in the tree")
+    print(f"documents: {len(asked)} definitions that contracts reach are in them, {len(public)} public functions have a result stated, and what the documents name is in the tree")
 
 
 main(sys.argv[1:])

@@ -9,7 +9,7 @@ use native.Mathlib.Decide.{ℕ-discrete}
 use native.Mathlib.Omega.{arith}
 use borrow.Author.Tests.{eq-eqb, ne-eqb}
 use lib.Dec.{eqb}
-use lib.ListN.{getD, length, set, length-set}
+use lib.ListN.{getD, length, set, replicate, length-set, length-replicate}
 use lib.Seq.{getD-set-same, getD-set-other}
 use Rattle.forms.specs.Lists.{tabulate, when}
 use Rattle.forms.specs.Words.{rotl}
@@ -78,5 +78,5 @@ module _ (t : List ℕ) where
   filling-all {i} {w} e p = tabulated 2048 (λ k. rotl (getD t (k % 256) 0) (8 * (k / 256))) 0 w (p .len) (λ k l. p .there k l (omega arith))
 
 -- where the lengths are right, all eight tables are filled
-pub eight-filled : (t w : List ℕ) {d : List ℕ} → length t ≡ 256 → length w ≡ 2048 → d ≡ when (eqb (length t) 256 && eqb (length w) 2048) (eightTables t) w → d ≡ eightTables t
-eight-filled t w p q e = e ∙ rw (eq-eqb (length t) 256 p, eq-eqb (length w) 2048 q) refl
+pub eight-filled : (t w : List ℕ) {d : List ℕ} → length t ≡ 256 → w ≡ replicate 2048 0 → d ≡ when (eqb (length t) 256 && eqb (length w) 2048) (eightTables t) w → d ≡ eightTables t
+eight-filled t w p q e = e ∙ rw (eq-eqb (length t) 256 p, eq-eqb (length w) 2048 (ap length q ∙ length-replicate {A = ℕ} 2048 0)) refl

@@ -3,7 +3,7 @@ ghost use mathlib.Core.Path.{_≡_};
 ghost use mathlib.Core.Bool.{_&&_};
 ghost use Prim.Native.Nat.{ℕ, _*_, _/_, _%_, _^_, _<_};
 ghost use lib.Dec.{eqb};
-ghost use lib.ListN.{getD, length};
+ghost use lib.ListN.{getD, length, replicate};
 ghost use Rattle.forms.specs.Lists.{tabulate, when};
 ghost use Rattle.forms.specs.Words.{rotl};
 ghost use Rattle.labyrinth.specs.Working.{eightTables};
@@ -11,7 +11,7 @@ ghost use Rattle.labyrinth.specs.Working.{pays as worthWider};
 
 // Where the eight tables go.
 pub fn zeros() -> [u64; 2048]
-    ensures { λ r. ⌜ length r ≡ 2048 ⌝ }
+    ensures { λ r. ⌜ r ≡ replicate 2048 0 ⌝ }
 {
     [0; 2048]
 }

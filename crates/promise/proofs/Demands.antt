@@ -10,6 +10,7 @@ use Rattle.forms.specs.Lists.{over}
 use Rattle.forms.specs.Refusals.{outcome}
 use Rattle.forms.proofs.Refusals.{refused-keeps, unless-three, unless-four}
 use Rattle.field.specs.Published.{row}
+use Rattle.field.proofs.Substitution.{table1-undo}
 use Rattle.field.proofs.Mixing.{mix-xor, mix-rotl}
 use Rattle.field.proofs.Eight.{mix-row-eight}
 use Rattle.labyrinth.specs.declared.WorkingKey.{WorkingKey}
@@ -24,7 +25,10 @@ use Rattle.labyrinth.proofs.Agree.{article-sound, E-used, U-used}
 use Rattle.modes.specs.Cbc.{cbcSeal, cbcOpen}
 use Rattle.modes.specs.Ctr.{ctr}
 use Rattle.modes.specs.Refusals.{cbcRefusal, ctrRefusal}
-use Rattle.modes.proofs.Refusals.{cbc-number, cbc-iff, ctr-number, ctr-iff}
+use Rattle.modes.proofs.Maps.{keeps-E, keeps-U}
+use Rattle.modes.proofs.Cbc.{length-seal, seal-block, length-open, open-block}
+use Rattle.modes.proofs.Ctr.{length-ctr, ctr-block}
+use Rattle.modes.proofs.Refusals.{cbc-number, cbc-iff, cbc-taken, ctr-number, ctr-iff, ctr-taken}
 use Rattle.modes.proofs.Again.{cbc-again, ctr-again}
 use Rattle.modes.proofs.Used.{seal-used, open-used, ctr-used}
 use Rattle.tape_rules.specs.declared.Tape.{Tape}
@@ -36,7 +40,7 @@ use Rattle.tape_rules.proofs.Used.{Alike, step-used}
 use Rattle.tape_run.specs.declared.Answered.{Answered}
 use Rattle.tape_run.specs.Runs.{Ran, returned}
 use Rattle.tape_run.proofs.Runs.{steps-used, run-says}
-use Rattle.promise.specs.Demands.{KeysTaken, BlocksTaken, CbcTaken, CtrTaken, Kept, AnswersKey, AnswersBlock, AnswersCbc, AnswersCtr, AnswersStep, AnswersTape, Expands, Maps, Enciphers, Deciphers, SealsCbc, OpensCbc, RunsCtr, Steps, WorksTape, UnusedWordsZero, SameUsed, AlikeStates, AlikeAnswers, TapesOfUsedWords, EAndUUndo, CbcOpensAgain, CtrOpensAgain, CbcCallsOpen, CtrCallsOpen, MixingOfXor, MixingRotated, MixingEightTimes}
+use Rattle.promise.specs.Demands.{KeysTaken, BlocksTaken, CbcTaken, CtrTaken, Kept, AnswersKey, AnswersBlock, AnswersCbc, AnswersCtr, AnswersStep, AnswersTape, Expands, Maps, Enciphers, Deciphers, SealsCbc, OpensCbc, RunsCtr, SealedByBlocks, OpenedByBlocks, CountedByBlocks, SubstitutionUndone, Steps, WorksTape, UnusedWordsZero, SameUsed, AlikeStates, AlikeAnswers, TapesOfUsedWords, EAndUUndo, CbcOpensAgain, CtrOpensAgain, CbcCallsOpen, CtrCallsOpen, MixingOfXor, MixingRotated, MixingEightTimes}
 
 -- ---- demand 1
 
@@ -96,6 +100,33 @@ answers-step t rest {answer} {before} {after} h =
 pub answers-tape : (tape : List ℕ) {answer : Answered} {before after : List ℕ} → WorksTape tape answer before after → AnswersTape tape answer before after
 answers-tape tape {answer} {before} {after} h =
     run-says (λ (q : Ran). (answer ≡ returned q) × (after ≡ over (q .written) before)) tape (length before) h
+
+-- ---- demand 2: the blocks of a run, and substitution
+
+module _ (k : WorkingKey) (start : List ℕ) where
+  pub sealed-by-blocks : (source before : List ℕ) {sealed : List ℕ} → SealsCbc k start source 0 before sealed → SealedByBlocks k start source sealed
+  sealed-by-blocks source before h =
+      let e = E article (k .n) (k .words) in
+      let keeps = keeps-E article (k .n) (k .words) in
+      let t = cbc-taken (k .n) (length start) (length source) (length before) (h .0) refl in
+      rw (h .1) (length-seal e (16 * k .n) keeps start source (t .whole), λ i l. seal-block e (16 * k .n) keeps start source i l)
+
+  pub opened-by-blocks : (source before : List ℕ) {opened : List ℕ} → OpensCbc k start source 0 before opened → OpenedByBlocks k start source opened
+  opened-by-blocks source before h =
+      let u = U article (k .n) (k .words) in
+      let keeps = keeps-U article (k .n) (k .words) in
+      let t = cbc-taken (k .n) (length start) (length source) (length before) (h .0) refl in
+      rw (h .1) (length-open u (16 * k .n) keeps start source (t .start) (t .whole), λ i l. open-block u (16 * k .n) keeps start source i (t .start) l)
+
+  pub counted-by-blocks : (q : ℕ) (source before : List ℕ) {after : List ℕ} → RunsCtr k start q source 0 before after → CountedByBlocks k start q source after
+  counted-by-blocks q source before h =
+      let e = E article (k .n) (k .words) in
+      let keeps = keeps-E article (k .n) (k .words) in
+      let t = ctr-taken (k .n) (length start) (length source) (length before) (h .0) refl in
+      rw (h .1) (length-ctr e (16 * k .n) keeps start (omega (arith, t .size .pos)) q source, λ i l. ctr-block e (16 * k .n) keeps start q source i l)
+
+pub substitution-undone : SubstitutionUndone
+substitution-undone b h = (table1-undo .back-there b h, table1-undo .there-back b h)
 
 -- ---- the working key
 

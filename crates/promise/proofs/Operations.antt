@@ -15,10 +15,11 @@ use Rattle.labyrinth.specs.declared.WorkingKey.{WorkingKey}
 use Rattle.labyrinth.specs.Cipher.{article}
 use Rattle.labyrinth.specs.Keys.{E, U}
 use Rattle.rows.specs.Inverse.{Row}
-use Rattle.promise.specs.Demands.{Bytes, Words, AnswersKey, AnswersBlock, AnswersCbc, AnswersCtr, AnswersStep, AnswersTape, Steps, WorksTape, Expands, Enciphers, Deciphers, SealsCbc, OpensCbc, RunsCtr, UnusedWordsZero, OfUsedWords, StepsOfUsedWords, ComesBack}
+use Rattle.promise.specs.Demands.{Bytes, Words, AnswersKey, AnswersBlock, AnswersCbc, AnswersCtr, AnswersStep, AnswersTape, Steps, WorksTape, Expands, Enciphers, Deciphers, SealsCbc, OpensCbc, RunsCtr, SealedByBlocks, OpenedByBlocks, CountedByBlocks, Substitutes, SubstitutesBack, Fresh, UnusedWordsZero, OfUsedWords, StepsOfUsedWords, ComesBack}
 use Rattle.promise.specs.Requests.{MakesTag, VerifiesTag, AnswersTag, AnswersVerifying, YesExactly, GetsYes, TellsItsEnd, Multiplies, MixesBy, AnswersMixing, MixesAsBefore, MakesTable, AnswersTable, MakesTheTableLent, LooksUp, FindsMixed, MultipliesRows, Inverts, AnswersInverse, ConvertsWord, Judges}
-use Rattle.promise.proofs.Demands.{answers-key, answers-block, seals-answers, opens-answers, ctr-answers, answers-step, answers-tape, unused-words-zero, enciphers-used, deciphers-used, seals-used, opens-used, runs-used, steps-alike, cbc-calls-open, ctr-calls-open}
+use Rattle.promise.proofs.Demands.{answers-key, answers-block, seals-answers, opens-answers, ctr-answers, answers-step, answers-tape, sealed-by-blocks, opened-by-blocks, counted-by-blocks, unused-words-zero, enciphers-used, deciphers-used, seals-used, opens-used, runs-used, steps-alike, cbc-calls-open, ctr-calls-open}
 use Rattle.promise.proofs.Requests.{answers-tag, answers-verifying, yes-exactly, tags-used, verifies-used, tells-its-end, answers-mixing, answers-table, one-inverse, looks-up, published-table}
+use Rattle.tape_rules.proofs.fresh as fresh
 use Rattle.tape.proofs.step as tape-step
 use Rattle.tape_run.proofs.run as tape-run
 use Rattle.expansion.proofs.expand as expand
@@ -42,6 +43,8 @@ use Rattle.rows.proofs.inverse as inverse-of-row
 use Rattle.judge.proofs.judge as judge-of-rows
 use Rattle.mixing.proofs.look_up as look-up
 use Rattle.tables.proofs.merged_table as merged-table
+use Rattle.tables.proofs.substitute as substitute
+use Rattle.tables.proofs.substitute_inverse as substitute-inverse
 use Rattle.arithmetic.proofs.times as times
 
 -- Of each: what it gives (demand 2), its number in plain terms and what a refusal returns and leaves (demand 1), and that it depends on the used words
@@ -106,6 +109,15 @@ module _ (κs : Lfts 2) where
   pub decipher-by-matrix-used : OfUsedWords {G = List ℕ × List ℕ} (decipher-by-matrix.Reads.Learnt κs) (λ a. a .0) (λ a. (a .1 .0 .now, a .1 .1 .0 .now)) (λ e. e .1 .1 .0 .now)
   decipher-by-matrix-used a b y z e f h g s p = deciphers-used (a .0) (b .0) s p h g
 
+-- ---- substitution
+
+module _ (κs : Lfts 0) where
+  pub substitutes : (a : _) (z : _) (e : _) → substitute.Reads.Learnt κs a z e → Substitutes (a .0) z
+  substitutes a z e h = h
+
+  pub substitutes-back : (a : _) (z : _) (e : _) → substitute-inverse.Reads.Learnt κs a z e → SubstitutesBack (a .0) z
+  substitutes-back a z e h = h
+
 -- ---- runs
 
 module _ (κs : Lfts 3) where
@@ -132,6 +144,16 @@ module _ (κs : Lfts 3) where
   pub ctr-run-answers : (a : _) (z : _) (e : _) → run.Reads.Learnt κs a z e
       → AnswersCtr (a .0) (a .1 .0 .now) (a .1 .1 .1 .0 .now) z (a .1 .1 .1 .1 .0 .now) (e .1 .1 .1 .1 .0 .now)
   ctr-run-answers a z e h = ctr-answers (a .0) (a .1 .0 .now) (a .1 .1 .1 .0 .now) (a .1 .1 .0) h
+
+  pub cbc-seal-by-blocks : (a : _) (e : _) → seal.Reads.Learnt κs a 0 e → SealedByBlocks (a .0) (a .1 .0 .now) (a .1 .1 .0 .now) (e .1 .1 .1 .0 .now)
+  cbc-seal-by-blocks a e h = sealed-by-blocks (a .0) (a .1 .0 .now) (a .1 .1 .0 .now) (a .1 .1 .1 .0 .now) h
+
+  pub cbc-open-by-blocks : (a : _) (e : _) → cbc-open.Reads.Learnt κs a 0 e → OpenedByBlocks (a .0) (a .1 .0 .now) (a .1 .1 .0 .now) (e .1 .1 .1 .0 .now)
+  cbc-open-by-blocks a e h = opened-by-blocks (a .0) (a .1 .0 .now) (a .1 .1 .0 .now) (a .1 .1 .1 .0 .now) h
+
+  pub ctr-run-by-blocks : (a : _) (e : _) → run.Reads.Learnt κs a 0 e
+      → CountedByBlocks (a .0) (a .1 .0 .now) (a .1 .1 .0) (a .1 .1 .1 .0 .now) (e .1 .1 .1 .1 .0 .now)
+  ctr-run-by-blocks a e h = counted-by-blocks (a .0) (a .1 .0 .now) (a .1 .1 .0) (a .1 .1 .1 .0 .now) (a .1 .1 .1 .1 .0 .now) h
 
   pub cbc-seal-used : OfUsedWords {G = List ℕ × List ℕ × List ℕ} (seal.Reads.Learnt κs) (λ a. a .0) (λ a. (a .1 .0 .now, a .1 .1 .0 .now, a .1 .1 .1 .0 .now)) (λ e. e .1 .1 .1 .0 .now)
   cbc-seal-used a b y z e f h g s p = seals-used (a .0) (b .0) s p h g
@@ -166,6 +188,10 @@ module _ (κs : Lfts 3) where
       opened old p q o r g = rw (sym p, sym q, sym o, sym r) g
 
 -- ---- the tape
+
+module _ (κs : Lfts 0) where
+  pub fresh-state : (a : _) (z : _) (e : _) → fresh.Reads.Learnt κs a z e → Fresh z
+  fresh-state a z e h = h
 
 module _ (κs : Lfts 2) where
   pub steps : (a : _) (z : _) (e : _) → tape-step.Reads.Learnt κs a z e → Steps (a .0) (a .1 .0 .now) z (a .1 .1 .0 .now) (e .1 .1 .0 .now)
@@ -299,6 +325,15 @@ module _ (κs : Lfts 0) where
 -- ---- every function named here meets its contract
 
 module _ {M : Type 1} where
+  pub substitute-met : substitute.Statement.statement M
+  substitute-met = substitute.Met.met
+
+  pub substitute-inverse-met : substitute-inverse.Statement.statement M
+  substitute-inverse-met = substitute-inverse.Met.met
+
+  pub fresh-met : fresh.Statement.statement M
+  fresh-met = fresh.Met.met
+
   pub step-met : tape-step.Statement.statement M
   step-met = tape-step.Met.met
 

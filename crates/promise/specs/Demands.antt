@@ -2,16 +2,19 @@
 -- sentence speaks of what operations do, the statement is over the operation's answer.
 -- Assumes nothing.
 use mathlib.Core.Path.{_≡_}
+use mathlib.Core.Bool.{false}
 use mathlib.Core.Logic.{_↔_}
 use mathlib.Core.List.{List, [], _∷_}
-use Prim.Native.Nat.{ℕ, _*_, _%_, _^_, _≤_, _<_}
+use Prim.Native.Nat.{ℕ, _+_, _*_, _/_, _%_, _^_, _≤_, _<_}
 use lib.Bits.{bitXor}
 use lib.ListN.{length, getD, replicate}
 use Rattle.forms.specs.Lists.{over, iterate}
 use Rattle.forms.specs.Words.{rotl}
 use Rattle.forms.specs.Refusals.{Unless, outcome, firstOf}
+use Rattle.forms.specs.Strings.{xorBytes, block}
+use Rattle.field.specs.Substitution.{sub, subInv}
 use Rattle.field.specs.Mixing.{mix, scale}
-use Rattle.field.specs.Published.{row}
+use Rattle.field.specs.Published.{table1, row}
 use Rattle.labyrinth.specs.declared.WorkingKey.{WorkingKey}
 use Rattle.labyrinth.specs.declared.Expanded.{Expanded}
 use Rattle.labyrinth.specs.Cipher.{article}
@@ -25,8 +28,8 @@ use Rattle.tape_rules.specs.Plain.{StepSays}
 use Rattle.tape_run.specs.declared.Answered.{Answered}
 use Rattle.tape_run.specs.Runs.{steps, joined, tapeAnswers, run}
 use Rattle.tape_run.specs.Runs as tape-run
-use Rattle.modes.specs.Cbc.{cbcSeal, cbcOpen}
-use Rattle.modes.specs.Ctr.{ctr}
+use Rattle.modes.specs.Cbc.{cbcSeal, cbcOpen, before as blockBefore}
+use Rattle.modes.specs.Ctr.{counter, blocks, ctr}
 use Rattle.modes.specs.Refusals.{cbcRefusal, ctrRefusal}
 
 -- a list of bytes, a list of words of 64 bits
@@ -144,10 +147,49 @@ RunsCtr k start q source number before after =
     (number ≡ ctrRefusal (k .n) (length start) (length source) (length before))
     × (after ≡ outcome number (ctr (E article (k .n) (k .words)) (16 * k .n) start q source) before)
 
+-- document 01: "Sealed block i is E of the XOR of source block i with the sealed block before it. Opened block i is U of sealed block i, XORed with the
+-- sealed block before it. Before block 0 stands the start block." "Block i of a run is bytes 16ni to 16ni + 16n − 1." Of a run that was taken, which
+-- leaves as many bytes as the source has:
+abbrev pub SealedByBlocks : WorkingKey → List ℕ → List ℕ → List ℕ → Type 0
+SealedByBlocks k start source sealed =
+    let z = 16 * k .n in
+    (length sealed ≡ length source)
+    × ((i : ℕ) → i < length source / z → block z i sealed ≡ E article (k .n) (k .words) (xorBytes (block z i source) (blockBefore z start sealed i)))
+
+abbrev pub OpenedByBlocks : WorkingKey → List ℕ → List ℕ → List ℕ → Type 0
+OpenedByBlocks k start source opened =
+    let z = 16 * k .n in
+    (length opened ≡ length source)
+    × ((i : ℕ) → i < length source / z → block z i opened ≡ xorBytes (U article (k .n) (k .words) (block z i source)) (blockBefore z start source i))
+
+-- "a last short block uses the first bytes of its key stream .. each source byte is XORed with the key stream's byte at its place. Block i, from 0,
+-- enciphers the start block plus q + i, modulo 2^(128n), read with its LAST byte least": `counter`; a last short block is counted by `blocks`
+abbrev pub CountedByBlocks : WorkingKey → List ℕ → ℕ → List ℕ → List ℕ → Type 0
+CountedByBlocks k start q source after =
+    let z = 16 * k .n in
+    (length after ≡ length source)
+    × ((i : ℕ) → i < blocks z (length source) → block z i after ≡ xorBytes (block z i source) (E article (k .n) (k .words) (counter z start (q + i))))
+
+-- "S is one-to-one; its inverse is used too." "Mixing and substitution take any value and never refuse." Mixing is below and, since it takes a row, in
+-- Requests
+abbrev pub Substitutes : ℕ → ℕ → Type 0
+Substitutes b answer = answer ≡ sub table1 b
+
+abbrev pub SubstitutesBack : ℕ → ℕ → Type 0
+SubstitutesBack b answer = answer ≡ subInv table1 b
+
+abbrev pub SubstitutionUndone : Type 0
+SubstitutionUndone = (b : ℕ) → b < 2 ^ 8 → (subInv table1 (sub table1 b) ≡ b) × (sub table1 (subInv table1 b) ≡ b)
+
 -- "The tape reader answers each command as document 01 lays down."
 abbrev pub Steps : Tape → List ℕ → Stepped → List ℕ → List ℕ → Type 0
 Steps t rest answer before after = let a = step t rest (length before) in (answer ≡ tape.returned a) × (after ≡ over (a .written) before)
 
+-- "A fresh state has n = 0, zero words, and neither mark."
+abbrev pub Fresh : Tape → Type 0
+Fresh answer = answer ≡ record { key = record { n = 0; words = replicate 32 0 }; keyed = false; ended = false }
+
+-- "The tape program steps through the tape .. until it is ended and writes the answers": the work of the program, from a tape to a buffer
 abbrev pub WorksTape : List ℕ → Answered → List ℕ → List ℕ → Type 0
 WorksTape tape answer before after = let a = run tape (length before) in (answer ≡ tape-run.returned a) × (after ≡ over (a .written) before)
 
