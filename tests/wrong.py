@@ -8,9 +8,9 @@ printed at which it answers otherwise than expected. The programs are tried in t
 all their cases first:
 
     comparison    tests/expected.py's cases, by the archivists' program and vectors and the papers' numbers
-    lines         tests/compare_c.py's, with one seed, through the C interface: long runs and damaged calls
     judge_row     rows of tests/judge.py, by determinants
     tape_program  the tapes of tests/tapes.py, by the papers and vectors
+    lines         tests/compare_c.py's, with one seed, through the C interface: long runs and damaged calls
     rows_c        the C interface's functions on rows, by the archivists' product
     inner         tests/wrong/inner.txt, functions called by themselves, by what their definitions say, worked out here
 
@@ -469,6 +469,38 @@ def inner_cases():
         yield "double_into", None, [out(c)], ((2 * int.from_bytes(c, "big") % 256 ** len(c)).to_bytes(len(c), "big"),)
     for a, b in ((b"", b""), (b"", b"\0"), (text[:16], text[:16]), (text[:16], text[:15]), (text[:3], b"\0" + text[1:3]), (text[:3], text[:2] + b"\0")):
         yield "equal", U8, [a, b], (int(a == b),)
+    # rows and mixing, with S, its inverse and another substitution
+    for row in ROWS:
+        for s in (bytes(labyrinth.S), bytes(labyrinth.S_INV), bytes(255 - b for b in range(256))):
+            table = words(archivists_rows.mixed(row, b) for b in s)
+            yield "table_of", None, [row, s, out(bytes(2048), 8)], (table,)
+            looked = archivists_rows.mixed(row, int.from_bytes(bytes(s[b] for b in words([word])), "little"))
+            yield "look_up", U64, [Lent(table, 8), word], (looked,)
+            if row == papers.PUBLISHED and s == bytes(labyrinth.S):
+                yield "substitute_and_mix", U64, [word], (looked,)
+    # the tape
+    yield "fresh", None, [out(b"\x5a" * 280, 8)], (bytes(280),)
+    # round trips: the numbers are those of sealing, then of opening
+    by_hand = loaded("expected").by_hand
+    for n, length, middle, end in ((1, 48, 48, 48), (2, 64, 64, 64), (4, 64, 64, 64), (1, 32, 16, 32), (1, 32, 32, 33), (1, 15, 15, 15), (3, 48, 48, 48)):
+        start, given = text[100 : 100 + 16 * n], text[:length]
+        for q in (None, 5):
+            numbers = papers.cbc if q is None else papers.ctr
+            first = numbers(n, 16 * n, length, middle)
+            number = first or numbers(n, 16 * n, middle, end)
+            cipher = None if first else by_hand(n)
+            sealed = b"\x5a" * middle if first else modes.cbc_encrypt(cipher, start, given) if q is None else modes.ctr_crypt(cipher, start, q, given)
+            buffers = [given, out(b"\x5a" * middle), out(b"\xa5" * end)]
+            name, words_ = ("cbc_there_and_back", [n, start]) if q is None else ("ctr_there_and_back", [n, start, q])
+            yield name, U8, words_ + buffers, (number, sealed, b"\xa5" * end if number else given)
+    for n, length, size in ((1, 0, 16), (1, 40, 8), (1, 16, 7), (2, 16, 16)):
+        number = papers.tag(n, size)
+        tag = b"\x5a" * size if number else modes.cmac(by_hand(n), text[:length], size)
+        yield "tag_made_and_verified", U8, [n, text[:length], out(b"\x5a" * size), place_for(1)], (number, tag, bytes([number == 0]))
+    for g in ROWS:
+        for h in ROWS:
+            number = papers.mixing(g) or papers.mixing(h)
+            yield "word_converted", U8, [g, h, word, place_for(8)], (number, words([0 if number else archivists_rows.mixed(h, word)]))
 
 
 def shown_by_calls(maker, path):
@@ -505,9 +537,9 @@ CALLS = {"rows_c": rows_cases, "inner": inner_cases}
 
 PROGRAMS = {
     "comparison": (("comparison",), functools.partial(program, "comparison"), shown_by_comparison, compared),
-    "lines": (("labyrinth_c", "rows_c"), lines_program, shown_by_lines, asked),
     "judge_row": (("judge_row",), functools.partial(program, "judge_row"), shown_by_judge, rows_to_judge),
     "tape_program": (("tape_program",), functools.partial(program, "tape_program"), shown_by_tapes, tapes),
+    "lines": (("labyrinth_c", "rows_c"), lines_program, shown_by_lines, asked),
     "rows_c": (
         ("rows_c",),
         lambda sources, place: shared(through_c("rows_c", sources, place), place),
