@@ -10,8 +10,8 @@ all their cases first:
     comparison    tests/expected.py's cases, by the archivists' program and vectors and the papers' numbers
     judge_row     rows of tests/judge.py, by determinants
     tape_program  the tapes of tests/tapes.py, by the papers and vectors
-    lines         tests/compare_c.py's, with one seed, through the C interface: long runs and damaged calls
     rows_c        the C interface's functions on rows, by the archivists' product
+    lines         tests/compare_c.py's, with one seed, through the C interface: long runs and damaged calls
     inner         tests/wrong/inner.txt, functions called by themselves, by what their definitions say, worked out here
 
 A program that is ended by a signal or does not end answers otherwise. An edit of a definition or a contract has no program, and is listed as such. Exit
@@ -28,6 +28,7 @@ import signal
 import subprocess
 import sys
 import tempfile
+import threading
 import time
 import types
 
@@ -40,7 +41,7 @@ import labyrinth
 import modes
 import papers
 
-LIMIT = 30  # seconds for a program to answer all its cases; the unedited ones take less than two
+LIMIT = 20  # seconds of the processor for a program to answer all its cases; the unedited ones take less than two
 
 # edits that no executed case can show, each with its reason
 EXCEPTIONS = {
@@ -110,7 +111,11 @@ def source(name):
 
 
 class Fault(Exception):
-    pass
+    """Of an edit: it cannot be applied or compiled."""
+
+
+class Broken(Exception):
+    """Of an unedited program, so that nothing is shown."""
 
 
 def edits():
@@ -237,11 +242,11 @@ def inner(sources, place):
 
 
 def run(words, given):
-    """What a program writes, and how it ended if it did not end well."""
-    try:
-        done = subprocess.run(words, input=given, capture_output=True, timeout=LIMIT)
-    except subprocess.TimeoutExpired as late:
-        return late.stdout or b"", f"no end in {LIMIT} s"
+    """What a program writes, and how it ended if it did not end well. The limit is of the processor's time, so that other work doesn't count."""
+    limited = ["sh", "-c", f'ulimit -t {LIMIT}; exec "$@"', "sh", *words]
+    done = subprocess.run(limited, input=given, capture_output=True, timeout=60 * LIMIT)
+    if done.returncode in (-signal.SIGXCPU, -signal.SIGKILL):
+        return done.stdout, f"no end in {LIMIT} s"
     if done.returncode < 0:
         return done.stdout, f"ended by {signal.Signals(-done.returncode).name}"
     said = done.stderr.decode(errors="replace").strip().split("\n")[0]
@@ -507,28 +512,29 @@ def shown_by_calls(maker, path):
     """In a process of its own, which tells each case before it calls."""
     wrote, ended = run([sys.executable, os.path.abspath(__file__), "--calls", maker, path], b"")
     lines = wrote.decode().splitlines()
-    if not ended:
-        return None
     if lines and lines[-1].startswith("differs"):
         return lines[-1].removeprefix("differs ")
-    return f"{lines[-1] if lines else 'no call'}: {ended}"
+    if ended.startswith("status"):
+        raise Broken(f"the calls of {maker}: {ended}")
+    return f"{lines[-1] if lines else 'no call'}: {ended}" if ended else None
 
 
 def calls(maker, path):
     library = ctypes.CDLL(path)
     for function, kind, given, want in CALLS[maker]():
         values = tuple(value.data if isinstance(value, Lent) else value for value in given)
-        name = f"{function}({', '.join(told((value,)) if len(told((value,))) <= 40 else told((value,))[:40] + '..' for value in values)})"
+        texts = [told((value,)) for value in values]
+        name = f"{function}({', '.join(text if len(text) <= 20 else text[:16] + '..' for text in texts)})"
         print(name, flush=True)
         got = called(library, function, kind, given)
         if callable(want):
             fault = want(got)
             if fault:
                 print(f"differs {name}: {fault}, got {told(got)}")
-                sys.exit(1)
+                return
         elif got != want:
             print(f"differs {name}: {apart(told(want), told(got))}")
-            sys.exit(1)
+            return
 
 
 CALLS = {"rows_c": rows_cases, "inner": inner_cases}
@@ -539,13 +545,13 @@ PROGRAMS = {
     "comparison": (("comparison",), functools.partial(program, "comparison"), shown_by_comparison, compared),
     "judge_row": (("judge_row",), functools.partial(program, "judge_row"), shown_by_judge, rows_to_judge),
     "tape_program": (("tape_program",), functools.partial(program, "tape_program"), shown_by_tapes, tapes),
-    "lines": (("labyrinth_c", "rows_c"), lines_program, shown_by_lines, asked),
     "rows_c": (
         ("rows_c",),
         lambda sources, place: shared(through_c("rows_c", sources, place), place),
         functools.partial(shown_by_calls, "rows_c"),
         lambda: None,
     ),
+    "lines": (("labyrinth_c", "rows_c"), lines_program, shown_by_lines, asked),
     "inner": (tuple(INNER), inner, functools.partial(shown_by_calls, "inner"), lambda: None),
 }
 
@@ -559,6 +565,25 @@ def shown(name, sources):
     _, build, test, _ = PROGRAMS[name]
     with tempfile.TemporaryDirectory() as place:
         return test(build(sources, place))
+
+
+LOCKS = {name: threading.Lock() for name in PROGRAMS}
+PASSED = []  # programs that answer every case as expected, unedited
+
+
+def ready(name):
+    """Makes a program's cases and holds the unedited program to them, once, when the first edit comes to it."""
+    with LOCKS[name]:
+        if name in PASSED:
+            return
+        try:
+            PROGRAMS[name][3]()
+            case = shown(name, {})
+        except Fault as fault:
+            raise Broken(f"{name}: {fault}") from fault
+        if case:
+            raise Broken(f"the unedited program {name} answers otherwise than expected: {case}")
+        PASSED.append(name)
 
 
 DEFINITION, SHOWN, HIDDEN, FAULT = "definition", "shown", "shown by no case", "FAULT"
@@ -576,6 +601,7 @@ def tried(path):
             if not names:
                 return FAULT, "no program here has its crate"
             for name in names:
+                ready(name)
                 case = shown(name, {crate: folder})
                 if case:
                     return SHOWN, f"{name}, {case}"
@@ -596,14 +622,7 @@ def main(wanted):
     began = time.monotonic()
     paths = chosen(wanted)
     jobs = int(os.environ.get("RT_JOBS") or os.cpu_count() or 1)
-    needed = [name for name in PROGRAMS if any(name in programs_of(path.split(os.sep)[-3]) for path in paths)]
     with concurrent.futures.ThreadPoolExecutor(jobs) as pool:
-        for name in needed:
-            PROGRAMS[name][3]()
-        for name, case in zip(needed, pool.map(lambda name: shown(name, {}), needed)):
-            if case:
-                raise SystemExit(f"wrong: FAILED: the unedited program {name} answers otherwise than expected: {case}")
-        print(f"wrong: unedited, as expected in every case: {', '.join(needed)} ({time.monotonic() - began:.0f} s)", flush=True)
         counts, bad = dict.fromkeys((SHOWN, DEFINITION, HIDDEN, FAULT), 0), 0
         for path, (kind, text) in zip(paths, pool.map(tried, paths)):
             label, reason = named(path), EXCEPTIONS.get(named(path))
@@ -616,6 +635,7 @@ def main(wanted):
         if not os.path.exists(os.path.join(ROOT, "crates", *label.split("/")[:1], "must-fail", f"{label.split('/')[1]}.edit")):
             print(f"wrong: FAILED: the exception {label} is no edit")
             bad += 1
+    print(f"wrong: unedited, as expected in every case: {', '.join(name for name in PROGRAMS if name in PASSED)}")
     print(
         f"wrong: {len(paths)} edits: {counts[SHOWN]} wrong programs shown, {counts[DEFINITION]} of definitions or contracts, "
         f"{counts[HIDDEN]} shown by no case, {counts[FAULT]} faults; {bad} failed; {time.monotonic() - began:.0f} s"
@@ -627,4 +647,7 @@ if __name__ == "__main__":
     if sys.argv[1:2] == ["--calls"]:
         calls(*sys.argv[2:])
     else:
-        main(sys.argv[1:])
+        try:
+            main(sys.argv[1:])
+        except Broken as broken:
+            sys.exit(f"wrong: FAILED: {broken}")
