@@ -4,8 +4,9 @@
 # make example  builds the library and runs examples/page.c and examples/convert.c over it
 # make compare  the library against the archivists' program; ARCHIVIST='command' for another program, SEED=number to repeat a run
 # make bench    times the proved code against C, and against OpenSSL's Camellia and ARIA where it is installed
+# make wrong    runs the wrong programs that the must-fail edits make, unproved, and shows of each a case that it answers wrongly; ONLY='crate crate/label'
 # make paper    the paper for the successor for print, to target/OPENING-A-PAGE.pdf
-.PHONY: run test lib example compare bench paper
+.PHONY: run test lib example compare bench wrong paper
 
 run:
 	rt check tape_program judge_row
@@ -42,6 +43,9 @@ bench: lib
 	then with='-DOPENSSL -lcrypto'; fi; \
 	gcc -std=c11 -O3 -Wall -Wextra -o target/bench bench/bench.c bench/labyrinth.c bench/others.c target/staticlib/libbench_blocks.a target/dist/liblabyrinth.a $$with
 	target/bench
+
+wrong:
+	tests/wrong.py $$ONLY
 
 # Needs Debian's groff and ghostscript, which brings fonts-urw-base35. Times of groff's is that package's Nimbus Roman, but groff knows no Cyrillic
 # letters of it; so it is made known once more, as the font CYR. groff works the paper twice, for the page numbers of the contents.
