@@ -11,7 +11,7 @@ import sys
 UNFIT = (
     r"has no `Need-[^`]*` that can be named from here",
     r"error\[",
-    r"is not in scope",
+    r"is not in scope(?! here, so what is shown)",  # but for what a refusal says of its own print
     r"\bunexpected\b|\bexpected an? |\bparse",
     r"has no field",
     r"mismatched types",

@@ -64,16 +64,7 @@ ctr-taken n start s d p e =
     let h = ctr-iff n start s d .0 (sym p ∙ e) in
     record { size = legal-size-of n (legal-iff n .1 (h .0)); start = h .1; same = h .2 }
 
--- a tag: 1 unless n is 1, 2 or 4, then 12 unless it is 1, then 11 unless there are 8 to 16 bytes, else 0
-pub cmac-number : (n t : ℕ) {r : ℕ} → r ≡ cmacRefusal n t
-    → Unless (Legal n) (r ≡ 1) (Unless (n ≡ 1) (r ≡ 12) (Unless ((8 ≤ t) × (t ≤ 16)) (r ≡ 11) (r ≡ 0)))
-unfolding cmacRefusal cmacLengths
-cmac-number n t e =
-    unless-plain (legal n) 1 _ e (legal-iff n) (λ e.
-    unless-plain (eqb n 1) 12 _ e (eqb-iff n 1) (λ e.
-    unless-plain (leb 8 t && leb t 16) 11 _ e (within-iff 8 16 t) (λ e. e)))
-
--- in the code's own order of tests: 12 for n = 2 and 4 whatever its length, then 11 for a length that is none
+-- a tag, as the code tests it: 12 for n = 2 and 4 whatever its length, then 11 for a length that is none
 module _ (n t : ℕ) where
   pub cmac-large : legal n ≡ true → (n ≡ 1 → ⊥) → 12 ≡ cmacRefusal n t
   unfolding cmacRefusal cmacLengths
@@ -90,6 +81,15 @@ module _ (n t : ℕ) where
       without : (b : Bool) → 11 ≡ unless (b && false) 11 0
       without true = refl
       without false = refl
+
+-- a tag: 1 unless n is 1, 2 or 4, then 12 unless it is 1, then 11 unless there are 8 to 16 bytes, else 0
+pub cmac-number : (n t : ℕ) {r : ℕ} → r ≡ cmacRefusal n t
+    → Unless (Legal n) (r ≡ 1) (Unless (n ≡ 1) (r ≡ 12) (Unless ((8 ≤ t) × (t ≤ 16)) (r ≡ 11) (r ≡ 0)))
+unfolding cmacRefusal cmacLengths
+cmac-number n t e =
+    unless-plain (legal n) 1 _ e (legal-iff n) (λ e.
+    unless-plain (eqb n 1) 12 _ e (eqb-iff n 1) (λ e.
+    unless-plain (leb 8 t && leb t 16) 11 _ e (within-iff 8 16 t) (λ e. e)))
 
 -- a tag is made or verified exactly when n is 1 and it has 8 to 16 bytes
 pub cmac-iff : (n t : ℕ) → (cmacRefusal n t ≡ 0) ↔ ((n ≡ 1) × (8 ≤ t) × (t ≤ 16))
