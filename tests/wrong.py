@@ -175,8 +175,8 @@ def command(words, what):
 
 
 def archive(name, root, below, sources, out):
-    """A library compiled with no proof: its root file, the crates below it, and the folders of those that are not as they stand in the repository. Each
-    crate is given what it uses and no more, since some have modules with the names of other crates."""
+    """A library compiled with no proof, by the kit's rattle-cases, which rt try runs too: its root file, the crates below it, and the folders of those that
+    are not as they stand in the repository. Each crate is given what it uses and no more, since some have modules with the names of other crates."""
     home, own = kit()
     words = [os.path.join(own, "bin", "rattle-cases"), "--toolchain", os.path.join(own, "toolchain"), "--staticlib", out, root, "--crate-name", name]
     words += ["--lib", f"std={home}/libs/std/src/lib.rt"]
