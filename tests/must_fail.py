@@ -14,6 +14,7 @@ UNFIT = (
     r"is not in scope(?! here, so what is shown)",  # but for what a refusal says of its own print
     r"\bunexpected\b|\bexpected an? |\bparse",
     r"has no field",
+    r"no occurrence of the path's left endpoint",
     r"mismatched types",
     r"this pattern needs a function",
 )

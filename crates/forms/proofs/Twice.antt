@@ -5,9 +5,11 @@ use mathlib.Core.List.{List}
 use Prim.Native.Nat.{ℕ, zero, suc}
 use native.Mathlib.Omega.{arith}
 use borrow.Author.Tests.{eq-eqb, ne-eqb}
+use lib.Dec.{eqb}
 use lib.ListN.{length}
-use Rattle.forms.specs.Refusals.{outcome, firstOf}
-use Rattle.forms.proofs.Refusals.{refused-keeps}
+use Rattle.forms.specs.Refusals.{Unless, outcome, firstOf}
+use Rattle.forms.proofs.Refusals.{refused-keeps, unless-plain}
+use Rattle.forms.proofs.Booleans.{eqb-iff}
 
 pub first-refused : (a b : ℕ) → (a ≡ 0 → ⊥) → a ≡ firstOf a b
 unfolding firstOf
@@ -20,6 +22,11 @@ first-passed a b h = rw (eq-eqb a 0 h)
 pub first-zero : (a b : ℕ) → firstOf a b ≡ 0 → (a ≡ 0) × (b ≡ 0)
 first-zero zero b e = (refl, first-passed 0 b refl ∙ e)
 first-zero (suc a) b e = let h : suc a ≡ 0 → ⊥ = λ z. omega arith in absurd (h (first-refused (suc a) b h ∙ e))
+
+-- in plain terms: the first number unless it is 0, then the second
+pub first-plain : (a b : ℕ) {r : ℕ} → r ≡ firstOf a b → Unless (a ≡ 0) (r ≡ a) (r ≡ b)
+unfolding firstOf
+first-plain a b e = unless-plain (eqb a 0) a b e (eqb-iff a 0) (λ e. e)
 
 -- the first answers first and maps by run, from src to mid; the second answers second, by the length of mid, and maps by back, from mid to dst
 module _ (first : ℕ) (second : ℕ → ℕ) (run back : List ℕ → List ℕ) (src mid dst : List ℕ) where

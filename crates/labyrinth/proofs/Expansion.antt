@@ -197,6 +197,18 @@ padded-zero ws i h = getD-padded ws i ∙ List·getD-eq-default ws 0 h
 
 -- ---- what expansion answers
 
+-- the number that it was given, and with a refusal the blank key
+module _ (SM : ℕ → ℕ) (n l : ℕ) (key : List ℕ) where
+  pub expansion-number : (r : ℕ) → expansion SM n l key r .number ≡ r
+  unfolding expansion
+  expansion-number zero = refl
+  expansion-number (suc r) = refl
+
+  pub expansion-blank : (r : ℕ) → (r ≡ 0 → ⊥) → expansion SM n l key r .key ≡ record { n = 0; words = padded [] }
+  unfolding expansion
+  expansion-blank zero h = absurd (h refl)
+  expansion-blank (suc r) h = refl
+
 -- a refused key, by its number
 pub refused-is : (SM : ℕ → ℕ) (n l : ℕ) (key : List ℕ) (number : ℕ) {r : ℕ} {x : Expanded} → number ≡ r → (number ≡ 0 → ⊥)
     → x ≡ record { number = number; key = record { n = 0; words = padded [] } } → x ≡ expansion SM n l key r

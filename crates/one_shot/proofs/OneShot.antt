@@ -2,17 +2,20 @@
 -- Assumes nothing.
 use mathlib.Core.Path.{_≡_, refl, sym, ap, _∙_}
 use mathlib.Core.Bool.{Bool}
+use mathlib.Core.Logic.{inl, inr}
 use mathlib.Core.List.{List}
-use Prim.Native.Nat.{ℕ, zero, suc}
+use Prim.Native.Nat.{ℕ, zero, suc, _*_}
 use native.Mathlib.Omega.{arith}
 use lib.ListN.{length}
-use Rattle.forms.specs.Refusals.{outcome}
+use Rattle.forms.specs.Refusals.{Unless, outcome}
 use Rattle.forms.proofs.Refusals.{refused-keeps}
-use Rattle.forms.proofs.Twice.{first-refused, first-passed}
+use Rattle.forms.proofs.Twice.{first-refused, first-passed, first-plain}
 use Rattle.labyrinth.specs.declared.Expanded.{Expanded}
 use Rattle.labyrinth.specs.Cipher.{article}
 use Rattle.labyrinth.specs.Keys.{E}
-use Rattle.labyrinth.specs.Refusals.{expandRefusal, expansion}
+use Rattle.labyrinth.specs.Refusals.{Legal, LegalLength, expandRefusal, expansion}
+use Rattle.labyrinth.proofs.Refusals.{expand-number, expand-iff}
+use Rattle.labyrinth.proofs.Expansion.{expansion-number}
 use Rattle.modes.specs.Cmac.{valid}
 use Rattle.modes.specs.Refusals.{cmacRefusal}
 use Rattle.cmac.specs.declared.Verified.{Verified}
@@ -20,12 +23,24 @@ use Rattle.cmac.specs.Verification.{verification}
 use Rattle.cmac.proofs.Tags.{verification-number}
 use Rattle.one_shot.specs.OneShot.{keyOf, numberOf, yesByte}
 
--- an expansion's number, and of one that passed the size
-number-of : (SM : ℕ → ℕ) (n l : ℕ) (key : List ℕ) (r : ℕ) → expansion SM n l key r .number ≡ r
-unfolding expansion
-number-of SM n l key zero = refl
-number-of SM n l key (suc r) = refl
+-- in plain terms: 1, 2 and 3 as expansion has them, then the operation's own
+pub number-plain : (n l : ℕ) (key : List ℕ) (operation : ℕ) {r : ℕ} → r ≡ numberOf n l key operation
+    → Unless (Legal n) (r ≡ 1) (Unless (LegalLength l) (r ≡ 2) (Unless (length key ≡ 8 * (n * l)) (r ≡ 3) (r ≡ operation)))
+number-plain n l key operation {r} e = by-first (first-plain (expandRefusal n l (length key)) operation e)
+  where
+    by-check : (r ≡ 0 → ⊥) → Unless (Legal n) (r ≡ 1) (Unless (LegalLength l) (r ≡ 2) (Unless (length key ≡ 8 * (n * l)) (r ≡ 3) (r ≡ 0)))
+        → Unless (Legal n) (r ≡ 1) (Unless (LegalLength l) (r ≡ 2) (Unless (length key ≡ 8 * (n * l)) (r ≡ 3) (r ≡ operation)))
+    by-check h (inl u) = inl u
+    by-check h (inr (a, inl u)) = inr (a, inl u)
+    by-check h (inr (a, inr (b, inl u))) = inr (a, inr (b, inl u))
+    by-check h (inr (a, inr (b, inr (c, z)))) = absurd (h z)
 
+    by-first : Unless (expandRefusal n l (length key) ≡ 0) (r ≡ expandRefusal n l (length key)) (r ≡ operation)
+        → Unless (Legal n) (r ≡ 1) (Unless (LegalLength l) (r ≡ 2) (Unless (length key ≡ 8 * (n * l)) (r ≡ 3) (r ≡ operation)))
+    by-first (inl u) = by-check (λ z. u .0 (sym (u .1) ∙ z)) (expand-number n l (length key) (u .1))
+    by-first (inr u) = let t = expand-iff n l (length key) .0 (u .0) in inr (t .0, inr (t .1, inr (t .2, u .1)))
+
+-- of an expansion that passed the size
 size-of : (SM : ℕ → ℕ) (n l : ℕ) (key : List ℕ) (r : ℕ) → r ≡ 0 → expansion SM n l key r .key .n ≡ n
 unfolding expansion
 size-of SM n l key zero e = refl
@@ -34,7 +49,7 @@ size-of SM n l key (suc r) e = let f : ⊥ = omega arith in absurd f
 -- what an expansion answered
 module _ (n l : ℕ) (key : List ℕ) {x : Expanded} (e : x ≡ expansion (article .SM) n l key (expandRefusal n l (length key))) where
   number-is : x .number ≡ expandRefusal n l (length key)
-  number-is = ap (λ (y : Expanded). y .number) e ∙ number-of (article .SM) n l key (expandRefusal n l (length key))
+  number-is = ap (λ (y : Expanded). y .number) e ∙ expansion-number (article .SM) n l key (expandRefusal n l (length key))
 
   refused-number : (x .number ≡ 0 → ⊥) → (operation : ℕ) → x .number ≡ numberOf n l key operation
   refused-number h operation = number-is ∙ first-refused _ operation (λ z. h (number-is ∙ z))

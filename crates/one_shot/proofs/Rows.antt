@@ -1,22 +1,23 @@
 -- A word mixed by a row that has a length; the product of two such rows, the inverse, and the verdict.
 -- Assumes nothing.
 use mathlib.Core.Path.{_≡_, refl, sym, ap, _∙_, subst}
-use mathlib.Core.Logic.{_↔_}
+use mathlib.Core.Logic.{_⊎_, inl, inr, _↔_}
 use mathlib.Core.List.{List}
 use Prim.Native.Nat.{ℕ}
 use native.Mathlib.Omega.{arith}
 use borrow.Author.Tests.{eq-eqb, ne-eqb, eqb-true}
 use lib.Dec.{eqb}
 use lib.ListN.{length}
-use Rattle.forms.specs.Refusals.{unless, outcome, firstOf}
-use Rattle.forms.proofs.Refusals.{unless-zero, refused-keeps}
-use Rattle.forms.proofs.Twice.{first-refused, first-passed, first-zero}
+use Rattle.forms.specs.Refusals.{unless, Unless, outcome, firstOf}
+use Rattle.forms.proofs.Refusals.{unless-zero, refused-keeps, unless-plain, unless-one, unless-three}
+use Rattle.forms.proofs.Booleans.{eqb-iff}
+use Rattle.forms.proofs.Twice.{first-refused, first-passed, first-zero, first-plain}
 use Rattle.field.specs.Mixing.{product, rowSum}
 use Rattle.rows.specs.declared.Mixed.{Mixed}
 use Rattle.rows.specs.declared.Inverted.{Inverted}
 use Rattle.rows.specs.Rows.{rowRefusal, mixed}
 use Rattle.rows.specs.Inverse.{inverseRow, inverted}
-use Rattle.rows.proofs.Rows.{row-zero, row-iff, mixed-number}
+use Rattle.rows.proofs.Rows.{row-zero, row-iff, row-number, mixed-number}
 use Rattle.rows.proofs.Inverses.{inverted-number, inverted-done}
 use Rattle.judge.specs.declared.Verdict.{Verdict}
 use Rattle.judge.specs.Judge.{Judged}
@@ -27,6 +28,10 @@ pub row-four : (g : List ℕ) → (length g ≡ 8 → ⊥) → rowNumber g ≡ 4
 unfolding rowNumber
 row-four g h = rw (ne-eqb (length g) 8 h)
 
+pub row-plain : (g : List ℕ) {r : ℕ} → r ≡ rowNumber g → Unless (length g ≡ 8) (r ≡ 4) (((rowSum g ≡ 0) × (r ≡ 13)) ⊎ ((rowSum g ≡ 0 → ⊥) × (r ≡ 0)))
+unfolding rowNumber
+row-plain g e = unless-plain (eqb (length g) 8) 4 _ e (eqb-iff (length g) 8) (row-number g)
+
 pub row-taken : (g : List ℕ) → (rowNumber g ≡ 0) ↔ ((length g ≡ 8) × (rowSum g ≡ 0 → ⊥))
 unfolding rowNumber
 row-taken g = (
@@ -34,14 +39,17 @@ row-taken g = (
   λ h. rw (eq-eqb (length g) 8 (h .0)) (row-iff g .1 (h .1)),
 )
 
-pub product-taken : (g h : List ℕ) (room : ℕ) → (productNumber g h room ≡ 0) ↔ ((length g ≡ 8) × (length h ≡ 8) × (room ≡ 8))
+-- 4 for either row's length, then 5 for the destination's
+pub product-plain : (g h : List ℕ) (room : ℕ) {r : ℕ} → r ≡ productNumber g h room
+    → Unless (length g ≡ 8) (r ≡ 4) (Unless (length h ≡ 8) (r ≡ 4) (Unless (room ≡ 8) (r ≡ 5) (r ≡ 0)))
 unfolding productNumber
-product-taken g h room = (
-  λ e. let a = unless-zero (eqb (length g) 8) 3 _ e in
-      let b = unless-zero (eqb (length h) 8) 3 _ (a .1) in
-      (eqb-true (length g) 8 (a .0), eqb-true (length h) 8 (b .0), eqb-true room 8 (unless-zero (eqb room 8) 4 0 (b .1) .0)),
-  λ h′. rw (eq-eqb (length g) 8 (h′ .0), eq-eqb (length h) 8 (h′ .1), eq-eqb room 8 (h′ .2)),
-)
+product-plain g h room e =
+    unless-plain (eqb (length g) 8) 4 _ e (eqb-iff (length g) 8) (λ e.
+    unless-plain (eqb (length h) 8) 4 _ e (eqb-iff (length h) 8) (λ e.
+    unless-plain (eqb room 8) 5 _ e (eqb-iff room 8) (λ e. e)))
+
+pub product-taken : (g h : List ℕ) (room : ℕ) → (productNumber g h room ≡ 0) ↔ ((length g ≡ 8) × (length h ≡ 8) × (room ≡ 8))
+product-taken g h room = unless-three (product-plain g h room refl)
 
 -- 13 wherever eight bytes XOR to zero, whatever the destination
 pub inverse-thirteen : (g : List ℕ) (room : ℕ) → length g ≡ 8 → rowSum g ≡ 0 → inverseNumber g room ≡ 13
@@ -49,6 +57,23 @@ unfolding inverseNumber rowNumber
 inverse-thirteen g room e z =
     let n : rowNumber g ≡ 13 = rw (eq-eqb (length g) 8 e) (row-zero g z) in
     sym (first-refused (rowNumber g) _ (λ p. omega (arith, n, p))) ∙ n
+
+-- 4 for the row's length, then 13, then 5 for the destination's
+pub inverse-plain : (g : List ℕ) (room : ℕ) {r : ℕ} → r ≡ inverseNumber g room
+    → Unless (length g ≡ 8) (r ≡ 4) (((rowSum g ≡ 0) × (r ≡ 13)) ⊎ ((rowSum g ≡ 0 → ⊥) × Unless (room ≡ 8) (r ≡ 5) (r ≡ 0)))
+unfolding inverseNumber
+inverse-plain g room {r} e = by-first (first-plain (rowNumber g) (unless (eqb room 8) 5 0) e)
+  where
+    by-row : (r ≡ 0 → ⊥) → Unless (length g ≡ 8) (r ≡ 4) (((rowSum g ≡ 0) × (r ≡ 13)) ⊎ ((rowSum g ≡ 0 → ⊥) × (r ≡ 0)))
+        → Unless (length g ≡ 8) (r ≡ 4) (((rowSum g ≡ 0) × (r ≡ 13)) ⊎ ((rowSum g ≡ 0 → ⊥) × Unless (room ≡ 8) (r ≡ 5) (r ≡ 0)))
+    by-row h (inl u) = inl u
+    by-row h (inr (l, inl u)) = inr (l, inl u)
+    by-row h (inr (l, inr u)) = absurd (h (u .1))
+
+    by-first : Unless (rowNumber g ≡ 0) (r ≡ rowNumber g) (r ≡ unless (eqb room 8) 5 0)
+        → Unless (length g ≡ 8) (r ≡ 4) (((rowSum g ≡ 0) × (r ≡ 13)) ⊎ ((rowSum g ≡ 0 → ⊥) × Unless (room ≡ 8) (r ≡ 5) (r ≡ 0)))
+    by-first (inl u) = by-row (λ z. u .0 (sym (u .1) ∙ z)) (row-plain g (u .1))
+    by-first (inr u) = let t = row-taken g .0 (u .0) in inr (t .0, inr (t .1, unless-plain (eqb room 8) 5 0 (u .1) (eqb-iff room 8) (λ e. e)))
 
 pub inverse-taken : (g : List ℕ) (room : ℕ) → (inverseNumber g room ≡ 0) ↔ ((length g ≡ 8) × (rowSum g ≡ 0 → ⊥) × (room ≡ 8))
 unfolding inverseNumber
@@ -141,9 +166,12 @@ pub judge-four : (g : List ℕ) → (length g ≡ 8 → ⊥) → judgeNumber g �
 unfolding judgeNumber
 judge-four g h = rw (ne-eqb (length g) 8 h)
 
-pub judge-taken : (g : List ℕ) → (judgeNumber g ≡ 0) ↔ (length g ≡ 8)
+pub judge-plain : (g : List ℕ) {r : ℕ} → r ≡ judgeNumber g → Unless (length g ≡ 8) (r ≡ 4) (r ≡ 0)
 unfolding judgeNumber
-judge-taken g = (λ e. eqb-true (length g) 8 (unless-zero (eqb (length g) 8) 3 _ e .0), λ h. rw (eq-eqb (length g) 8 h))
+judge-plain g e = unless-plain (eqb (length g) 8) 4 0 e (eqb-iff (length g) 8) (λ e. e)
+
+pub judge-taken : (g : List ℕ) → (judgeNumber g ≡ 0) ↔ (length g ≡ 8)
+judge-taken g = unless-one (judge-plain g refl)
 
 -- as the code has it
 pub judge-length : (g : List ℕ) → (length g ≡ 8 → ⊥) → (4 ≡ judgeNumber g) × VerdictGiven g 4 0 0

@@ -19,7 +19,7 @@ use Rattle.labyrinth.specs.Cipher.{article}
 use Rattle.labyrinth.specs.Keys.{E, U, expandedWords}
 use Rattle.labyrinth.specs.Refusals.{Legal, LegalLength, padded, blockRefusal, expandRefusal, expansion}
 use Rattle.labyrinth.proofs.Refusals.{block-number, expand-number, expand-iff}
-use Rattle.labyrinth.proofs.Expansion.{length-expandedWords, length-padded, padded-zero}
+use Rattle.labyrinth.proofs.Expansion.{expansion-number, expansion-blank, length-expandedWords, length-padded, padded-zero}
 use Rattle.labyrinth.proofs.Undo.{U-E, E-U}
 use Rattle.labyrinth.proofs.Agree.{article-sound, E-used, U-used}
 use Rattle.modes.specs.Cbc.{cbcSeal, cbcOpen}
@@ -60,23 +60,12 @@ ctr-runs-taken n start source destination number u = unless-three u
 pub kept : (number : ℕ) (result before : List ℕ) {after : List ℕ} → after ≡ outcome number result before → Kept number before after
 kept number result before e h = e ∙ sym (refused-keeps number result before h)
 
-module _ (n l : ℕ) (key : List ℕ) where
-  expansion-number : (r : ℕ) → expansion (article .SM) n l key r .number ≡ r
-  unfolding expansion
-  expansion-number zero = refl
-  expansion-number (suc r) = refl
-
-  expansion-blank : (r : ℕ) → (r ≡ 0 → ⊥) → expansion (article .SM) n l key r .key ≡ record { n = 0; words = padded [] }
-  unfolding expansion
-  expansion-blank zero h = absurd (h refl)
-  expansion-blank (suc r) h = refl
-
-  pub answers-key : {answer : Expanded} → Expands n l key answer → AnswersKey n l key answer
-  unfolding padded
-  answers-key {answer} h =
-      let r = expandRefusal n l (length key) in
-      let e : answer .number ≡ r = ap (λ (x : Expanded). x .number) h ∙ expansion-number r in
-      (expand-number n l (length key) e, λ z. ap (λ (x : Expanded). x .key) h ∙ expansion-blank r (λ y. z (e ∙ y)))
+pub answers-key : (n l : ℕ) (key : List ℕ) {answer : Expanded} → Expands n l key answer → AnswersKey n l key answer
+unfolding padded
+answers-key n l key {answer} h =
+    let r = expandRefusal n l (length key) in
+    let e : answer .number ≡ r = ap (λ (x : Expanded). x .number) h ∙ expansion-number (article .SM) n l key r in
+    (expand-number n l (length key) e, λ z. ap (λ (x : Expanded). x .key) h ∙ expansion-blank (article .SM) n l key r (λ y. z (e ∙ y)))
 
 pub answers-block : (map : List ℕ → List ℕ) (k : WorkingKey) (source : List ℕ) {number : ℕ} {before after : List ℕ}
     → Maps map (k .n) source number before after → AnswersBlock k source number before after

@@ -50,6 +50,7 @@ use Rattle.modes.proofs.Refusals.{cmac-number, cmac-taken}
 use Rattle.modes.proofs.Used.{tag-used}
 use Rattle.cmac.specs.declared.Verified.{Verified}
 use Rattle.cmac.specs.Verification.{verification}
+use Rattle.cmac.proofs.Tags.{verification-number, refused-no}
 use Rattle.round_trips.proofs.Rows.{converted}
 use Rattle.operands.specs.Operands.{zeros}
 use Rattle.tape_rules.specs.declared.Stepped.{Stepped}
@@ -80,18 +81,6 @@ masks-doubled ws =
 pub one-remainder : OneRemainder
 one-remainder = only-remainder
 
--- verifying answers the number that it was given, and a no with every refusal
-module _ (e : List ℕ → List ℕ) (message given : List ℕ) where
-  verified-number : (r : ℕ) → verification e message given r .number ≡ r
-  unfolding verification
-  verified-number zero = refl
-  verified-number (suc r) = refl
-
-  verified-no : (r : ℕ) → (r ≡ 0 → ⊥) → verification e message given r .yes ≡ false
-  unfolding verification
-  verified-no zero h = absurd (h refl)
-  verified-no (suc r) h = refl
-
 pub yes-exactly : (k : WorkingKey) (message given : List ℕ) {answer : Verified} → VerifiesTag k message given answer → YesExactly k message given answer
 unfolding verification
 yes-exactly k message given h = rw h (by-number (cmacRefusal (k .n) (length given)) refl)
@@ -119,8 +108,8 @@ pub answers-verifying : (k : WorkingKey) (message given : List ℕ) {answer : Ve
 answers-verifying k message given {answer} h =
     let e = E article (k .n) (k .words) in
     let r = cmacRefusal (k .n) (length given) in
-    let p : answer .number ≡ r = ap (λ (v : Verified). v .number) h ∙ verified-number e message given r in
-    (cmac-number (k .n) (length given) p, λ z. ap (λ (v : Verified). v .yes) h ∙ verified-no e message given r (λ y. z (p ∙ y)))
+    let p : answer .number ≡ r = ap (λ (v : Verified). v .number) h ∙ verification-number e message given r in
+    (cmac-number (k .n) (length given) p, λ z. ap (λ (v : Verified). v .yes) (h ∙ sym (refused-no e message given r refl (λ y. z (p ∙ y)))))
 
 -- document 01: later answers depend on the used words only
 module _ (k j : WorkingKey) (s : SameUsed k j) where

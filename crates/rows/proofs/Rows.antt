@@ -2,7 +2,7 @@
 -- Assumes nothing.
 use mathlib.Core.Path.{_≡_, refl, ap, _∙_}
 use mathlib.Core.Bool.{Bool, true, false, not}
-use mathlib.Core.Logic.{_↔_}
+use mathlib.Core.Logic.{_⊎_, inl, inr, _↔_}
 use mathlib.Core.List.{List}
 use Prim.Native.Nat.{ℕ, zero, suc}
 use native.Mathlib.Omega.{arith}
@@ -42,6 +42,13 @@ row-zero g e = rw (turned-away g e)
 pub row-iff : (g : List ℕ) → (rowRefusal g ≡ 0) ↔ (rowSum g ≡ 0 → ⊥)
 unfolding rowRefusal
 row-iff g = (λ e. not-zero g (unless-zero (accepted g) 12 0 e .0), λ h. rw (taken g h))
+
+pub row-number : (g : List ℕ) {r : ℕ} → r ≡ rowRefusal g → ((rowSum g ≡ 0) × (r ≡ 13)) ⊎ ((rowSum g ≡ 0 → ⊥) × (r ≡ 0))
+row-number g {r} e = by-sum (eqb (rowSum g) 0) refl
+  where
+    by-sum : (b : Bool) → eqb (rowSum g) 0 ≡ b → ((rowSum g ≡ 0) × (r ≡ 13)) ⊎ ((rowSum g ≡ 0 → ⊥) × (r ≡ 0))
+    by-sum true p = let z = eqb-true (rowSum g) 0 p in inl (z, e ∙ row-zero g z)
+    by-sum false p = let h = eqb-false (rowSum g) 0 p in inr (h, e ∙ row-iff g .1 h)
 
 -- making the table: 13 exactly there too, so the row's number, then 5 exactly where the buffer isn't 256 words
 pub table-zero : (g : List ℕ) (room : ℕ) → rowSum g ≡ 0 → tableRefusal g room ≡ 13

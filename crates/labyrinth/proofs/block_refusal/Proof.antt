@@ -1,6 +1,7 @@
 -- The checks in their order.
 -- Assumes nothing.
 use mathlib.Core.Path.{_≡_, sym, _∙_}
+use Prim.Native.Nat.{_*_}
 use native.Mathlib.Omega.{arith}
 use borrow.Author.Tests.{not-true, not-false, eq-eqb, ne-eqb}
 use Rattle.labyrinth.specs.Refusals.{blockRefusal}
@@ -28,7 +29,9 @@ mul-if3 c = omega (arith, legal-size-of _ (sym (c .before .before .is-legal .ens
 
 returns-3 : tie.Need-returns-3
 unfolding blockRefusal
-returns-3 c = rw (sym (c .before .before .before .is-legal .ensures) ∙ not-false _ (c .before .before .if1 .left), eq-eqb _ _ (c .before .if2 .left), ne-eqb _ _ (c .if3 .taken))
+returns-3 c =
+    let a = c .before .before .before .before .args in
+    rw (sym (c .before .before .before .is-legal .ensures) ∙ not-false _ (c .before .before .if1 .left), eq-eqb _ _ (c .before .if2 .left), ne-eqb (a .destination) (16 * a .n) (c .if3 .taken))
 
 returns-4 : tie.Need-returns-4
 unfolding blockRefusal

@@ -2,6 +2,7 @@
 -- Assumes nothing.
 use mathlib.Core.Path.{_≡_, sym, _∙_}
 use mathlib.Core.Bool.{true}
+use Prim.Native.Nat.{_*_}
 use native.Mathlib.Omega.{arith}
 use borrow.Author.Tests.{not-true, not-false, eq-eqb, ne-eqb}
 use borrow.Author.Needs.{needs}
@@ -27,7 +28,7 @@ mul-if2 c = omega (arith, legal-size-of _ (passed c) .top)
 
 returns-2 : tie.Need-returns-2
 unfolding ctrRefusal ctrLengths
-returns-2 c = rw (passed (c .before), ne-eqb _ _ (c .if2 .taken))
+returns-2 c = let a = c .before .before .before .args in rw (passed (c .before), ne-eqb (a .start) (16 * a .n) (c .if2 .taken))
 
 returns-3 : tie.Need-returns-3
 unfolding ctrRefusal ctrLengths
