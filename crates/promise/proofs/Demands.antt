@@ -18,7 +18,7 @@ use Rattle.labyrinth.specs.declared.Expanded.{Expanded}
 use Rattle.labyrinth.specs.Cipher.{article}
 use Rattle.labyrinth.specs.Keys.{E, U, expandedWords}
 use Rattle.labyrinth.specs.Refusals.{Legal, LegalLength, padded, blockRefusal, expandRefusal, expansion}
-use Rattle.labyrinth.proofs.Refusals.{block-number, expand-number, expand-iff}
+use Rattle.labyrinth.proofs.Refusals.{block-number, block-iff, expand-number, expand-iff}
 use Rattle.labyrinth.proofs.Expansion.{expansion-number, expansion-blank, length-expandedWords, length-padded, padded-zero}
 use Rattle.labyrinth.proofs.Undo.{U-E, E-U}
 use Rattle.labyrinth.proofs.Agree.{article-sound, E-used, U-used}
@@ -40,7 +40,7 @@ use Rattle.tape_rules.proofs.Used.{Alike, step-used}
 use Rattle.tape_run.specs.declared.Answered.{Answered}
 use Rattle.tape_run.specs.Runs.{Ran, returned}
 use Rattle.tape_run.proofs.Runs.{steps-used, run-says}
-use Rattle.promise.specs.Demands.{KeysTaken, BlocksTaken, CbcTaken, CtrTaken, Kept, AnswersKey, AnswersBlock, AnswersCbc, AnswersCtr, AnswersStep, AnswersTape, Expands, Maps, Enciphers, Deciphers, SealsCbc, OpensCbc, RunsCtr, SealedByBlocks, OpenedByBlocks, CountedByBlocks, SubstitutionUndone, Steps, WorksTape, UnusedWordsZero, SameUsed, AlikeStates, AlikeAnswers, TapesOfUsedWords, EAndUUndo, CbcOpensAgain, CtrOpensAgain, CbcCallsOpen, CtrCallsOpen, MixingOfXor, MixingRotated, MixingEightTimes}
+use Rattle.promise.specs.Demands.{KeysTaken, BlocksTaken, CbcTaken, CtrTaken, Kept, AnswersKey, AnswersBlock, AnswersCbc, AnswersCtr, AnswersStep, AnswersTape, Expands, Maps, Enciphers, Deciphers, SealsCbc, OpensCbc, RunsCtr, SealedByBlocks, OpenedByBlocks, CountedByBlocks, SubstitutionUndone, Steps, WorksTape, UnusedWordsZero, SameUsed, AlikeStates, AlikeAnswers, TapesOfUsedWords, EAndUUndo, BlocksComeBack, CbcOpensAgain, CtrOpensAgain, CbcCallsOpen, CtrCallsOpen, MixingOfXor, MixingRotated, MixingEightTimes}
 
 -- ---- demand 1
 
@@ -213,6 +213,15 @@ tapes-of-used-words k t u rest h = steps-used k t u rest (alike t u h)
 
 pub e-and-u-undo : EAndUUndo
 e-and-u-undo n ws b w l h = (U-E article article-sound n ws b w l h, E-U article article-sound n ws b w l h)
+
+pub blocks-come-back : BlocksComeBack
+blocks-come-back k source before mapped old after w hb = (
+  λ h g. g .1 ∙ ap (U article (k .n) (k .words)) (h .1) ∙ e-and-u-undo (k .n) (k .words) source w (long (h .0)) hb .0,
+  λ h g. g .1 ∙ ap (E article (k .n) (k .words)) (h .1) ∙ e-and-u-undo (k .n) (k .words) source w (long (h .0)) hb .1,
+)
+  where
+    long : 0 ≡ blockRefusal (k .n) (length source) (length before) → length source ≡ 16 * k .n
+    long e = block-iff (k .n) (length source) (length before) .0 (sym e) .1
 
 pub cbc-opens-again : CbcOpensAgain
 cbc-opens-again n ws start p sealed w hs hp taken =

@@ -236,6 +236,13 @@ abbrev pub EAndUUndo : Type 0
 EAndUUndo =
     (n : ℕ) (ws b : List ℕ) → Words ws → length b ≡ 16 * n → Bytes b → (U article n ws (E article n ws b) ≡ b) × (E article n ws (U article n ws b) ≡ b)
 
+-- so what one call enciphers the next deciphers to what it was, and the other way round, by either engine
+abbrev pub BlocksComeBack : Type 0
+BlocksComeBack =
+    (k : WorkingKey) (source before mapped old after : List ℕ) → Words (k .words) → Bytes source
+    → (Enciphers k source 0 before mapped → Deciphers k mapped 0 old after → after ≡ source)
+    × (Deciphers k source 0 before mapped → Enciphers k mapped 0 old after → after ≡ source)
+
 -- "For every CBC or CTR sealing that document 01 admits, the empty one too, every admitted opening of its result, by the same kind of run and
 -- under the same working key, start block and, in CTR, offset, gives back the source byte for byte": of the modes,
 abbrev pub CbcOpensAgain : Type 0
