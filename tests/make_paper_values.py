@@ -14,6 +14,7 @@ import operator
 import os
 import re
 import sys
+import unittest.mock
 
 sys.dont_write_bytecode = True
 HERE = os.path.dirname(os.path.abspath(__file__))
@@ -346,14 +347,8 @@ def with_tables(row, substitution):
     """The archivists' program with another row and another substitution for the while."""
     other = dict(G=list(row), S=list(substitution), S_INV=[substitution.index(y) for y in range(256)])
     other["TL"] = [lab.bytes_to_word([lab.gf_mul(g, x) for g in row]) for x in range(256)]
-    before = {name: getattr(lab, name) for name in other}
-    for name, part in other.items():
-        setattr(lab, name, part)
-    try:
+    with unittest.mock.patch.multiple(lab, **other):
         yield
-    finally:
-        for name, part in before.items():
-            setattr(lab, name, part)
 
 
 def card_tables():

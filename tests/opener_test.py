@@ -18,6 +18,7 @@ import re
 import subprocess
 import sys
 import tempfile
+import unittest.mock
 
 sys.dont_write_bytecode = True
 HERE = os.path.dirname(os.path.abspath(__file__))
@@ -259,14 +260,8 @@ def other_tables(row, substitution):
     """The opener with another row and another substitution for the while, put where the paper says."""
     other = dict(ROW=list(row), S=substitution, S_INVERSE=bytes(substitution.index(y) for y in range(256)))
     other["PRODUCTS"] = [int.from_bytes(bytes(opener.product(g, b) for g in row), "little") for b in range(256)]
-    before = {name: getattr(opener, name) for name in other}
-    for name, part in other.items():
-        setattr(opener, name, part)
-    try:
+    with unittest.mock.patch.multiple(opener, **other):
         yield
-    finally:
-        for name, part in before.items():
-            setattr(opener, name, part)
 
 
 def own_tables(text, said):

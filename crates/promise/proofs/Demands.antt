@@ -1,7 +1,6 @@
 -- The demands hold: each statement, and the law that says it. What is stated of an operation's answer follows from what its contract says.
 -- Assumes nothing.
 use mathlib.Core.Path.{_≡_, refl, sym, ap, ap₂, _∙_, subst}
-use mathlib.Core.Logic.{⊎-elim}
 use mathlib.Core.List.{List, []}
 use Prim.Native.Nat.{ℕ, zero, suc, _*_, _≤_}
 use native.Mathlib.Omega.{arith}
@@ -17,11 +16,11 @@ use Rattle.labyrinth.specs.declared.WorkingKey.{WorkingKey}
 use Rattle.labyrinth.specs.declared.Expanded.{Expanded}
 use Rattle.labyrinth.specs.Cipher.{article}
 use Rattle.labyrinth.specs.Keys.{E, U, expandedWords}
-use Rattle.labyrinth.specs.Refusals.{Legal, LegalLength, padded, blockRefusal, expandRefusal, expansion}
-use Rattle.labyrinth.proofs.Refusals.{block-number, block-iff, expand-number, expand-iff}
+use Rattle.labyrinth.specs.Refusals.{padded, blockRefusal, expandRefusal, expansion}
+use Rattle.labyrinth.proofs.Refusals.{block-number, block-iff, expand-number, key-taken}
 use Rattle.labyrinth.proofs.Expansion.{expansion-number, expansion-blank, length-expandedWords, length-padded, padded-zero}
 use Rattle.labyrinth.proofs.Undo.{U-E, E-U}
-use Rattle.labyrinth.proofs.Agree.{article-sound, E-used, U-used}
+use Rattle.labyrinth.proofs.Agree.{article-sound, SameUsed as Used, E-used, U-used}
 use Rattle.modes.specs.Cbc.{cbcSeal, cbcOpen}
 use Rattle.modes.specs.Ctr.{ctr}
 use Rattle.modes.specs.Refusals.{cbcRefusal, ctrRefusal}
@@ -125,10 +124,9 @@ unused-words-zero n l key {answer} h = rw h (by-number (expandRefusal n l (lengt
   where
     by-number : (r : ℕ) → expandRefusal n l (length key) ≡ r → UnusedWordsZero (expansion (article .SM) n l key r)
     by-number zero e =
-        let t = expand-iff n l (length key) .0 e in
-        let low : l ≤ 8 = ⊎-elim (λ (p : l ≡ 2). omega arith) (λ o. ⊎-elim (λ (p : l ≡ 3). omega arith) (λ (p : l ≡ 4). omega arith) o) (t .1) in
-        let top : n ≤ 4 = ⊎-elim (λ (p : n ≡ 1). omega arith) (λ o. ⊎-elim (λ (p : n ≡ 2). omega arith) (λ (p : n ≡ 4). omega arith) o) (t .0) in
-        let s = length-expandedWords (article .SM) n l key low in
+        let t = key-taken n l (length key) refl e in
+        let s = length-expandedWords (article .SM) n l key (omega (arith, t .top)) in
+        let w : 8 * n ≤ 32 = omega (arith, t .size .top) in
         (length-padded (expandedWords (article .SM) n l key) (omega arith), λ i g. padded-zero (expandedWords (article .SM) n l key) i (omega arith))
     by-number (suc r) e = (length-padded [] (omega arith), λ i g. padded-zero [] i (omega arith))
 
@@ -146,41 +144,44 @@ pub map-used : (map : ℕ → List ℕ → List ℕ) → (k j : WorkingKey) → 
 map-used map k j s e = e ∙ ap (λ (n : ℕ). map n (j .words)) (s .0)
 
 module _ (k j : WorkingKey) (s : SameUsed k j) where
-  pub enciphers-used : {g g′ : List ℕ × List ℕ} {y z : ℕ} {e f : List ℕ} → g ≡ g′ → Enciphers k (g .0) y (g .1) e → Enciphers j (g′ .0) z (g′ .1) f
-      → (y ≡ z) × (e ≡ f)
-  enciphers-used =
-      two-calls (λ k g. blockRefusal (k .n) (length (g .0)) (length (g .1))) (λ k g. E article (k .n) (k .words) (g .0)) (λ g. g .1)
+  -- a block map that depends on the used words only
+  maps-used : (m : ℕ → List ℕ → List ℕ → List ℕ) → ((n : ℕ) (ws vs : List ℕ) → Used n ws vs → (b : List ℕ) → m n ws b ≡ m n vs b)
+      → {g g′ : List ℕ × List ℕ} {y z : ℕ} {e f : List ℕ} → g ≡ g′ → Maps (m (k .n) (k .words)) (k .n) (g .0) y (g .1) e
+      → Maps (m (j .n) (j .words)) (j .n) (g′ .0) z (g′ .1) f → (y ≡ z) × (e ≡ f)
+  maps-used m used =
+      two-calls (λ k g. blockRefusal (k .n) (length (g .0)) (length (g .1))) (λ k g. m (k .n) (k .words) (g .0)) (λ g. g .1)
       (λ k j s g. (
         ap (λ (n : ℕ). blockRefusal n (length (g .0)) (length (g .1))) (s .0),
-        map-used (λ n ws. E article n ws (g .0)) k j s (E-used article (k .n) (k .words) (j .words) (s .1) (g .0)),
+        map-used (λ n ws. m n ws (g .0)) k j s (used (k .n) (k .words) (j .words) (s .1) (g .0)),
       )) k j s
+
+  pub enciphers-used : {g g′ : List ℕ × List ℕ} {y z : ℕ} {e f : List ℕ} → g ≡ g′ → Enciphers k (g .0) y (g .1) e → Enciphers j (g′ .0) z (g′ .1) f
+      → (y ≡ z) × (e ≡ f)
+  enciphers-used = maps-used (E article) (E-used article)
 
   pub deciphers-used : {g g′ : List ℕ × List ℕ} {y z : ℕ} {e f : List ℕ} → g ≡ g′ → Deciphers k (g .0) y (g .1) e → Deciphers j (g′ .0) z (g′ .1) f
       → (y ≡ z) × (e ≡ f)
-  deciphers-used =
-      two-calls (λ k g. blockRefusal (k .n) (length (g .0)) (length (g .1))) (λ k g. U article (k .n) (k .words) (g .0)) (λ g. g .1)
+  deciphers-used = maps-used (U article) (U-used article)
+
+  -- a chained run that does
+  chains-used : (m : ℕ → List ℕ → List ℕ → List ℕ → List ℕ) → ((n : ℕ) (ws vs : List ℕ) → Used n ws vs → (c p : List ℕ) → m n ws c p ≡ m n vs c p)
+      → {g g′ : List ℕ × List ℕ × List ℕ} {y z : ℕ} {e f : List ℕ} → g ≡ g′
+      → (y ≡ cbcRefusal (k .n) (length (g .0)) (length (g .1)) (length (g .2))) × (e ≡ outcome y (m (k .n) (k .words) (g .0) (g .1)) (g .2))
+      → (z ≡ cbcRefusal (j .n) (length (g′ .0)) (length (g′ .1)) (length (g′ .2))) × (f ≡ outcome z (m (j .n) (j .words) (g′ .0) (g′ .1)) (g′ .2)) → (y ≡ z) × (e ≡ f)
+  chains-used m used =
+      two-calls (λ k g. cbcRefusal (k .n) (length (g .0)) (length (g .1)) (length (g .2))) (λ k g. m (k .n) (k .words) (g .0) (g .1)) (λ g. g .2)
       (λ k j s g. (
-        ap (λ (n : ℕ). blockRefusal n (length (g .0)) (length (g .1))) (s .0),
-        map-used (λ n ws. U article n ws (g .0)) k j s (U-used article (k .n) (k .words) (j .words) (s .1) (g .0)),
+        ap (λ (n : ℕ). cbcRefusal n (length (g .0)) (length (g .1)) (length (g .2))) (s .0),
+        map-used (λ n ws. m n ws (g .0) (g .1)) k j s (used (k .n) (k .words) (j .words) (s .1) (g .0) (g .1)),
       )) k j s
 
   pub seals-used : {g g′ : List ℕ × List ℕ × List ℕ} {y z : ℕ} {e f : List ℕ} → g ≡ g′ → SealsCbc k (g .0) (g .1) y (g .2) e → SealsCbc j (g′ .0) (g′ .1) z (g′ .2) f
       → (y ≡ z) × (e ≡ f)
-  seals-used =
-      two-calls (λ k g. cbcRefusal (k .n) (length (g .0)) (length (g .1)) (length (g .2))) (λ k g. cbcSeal (E article (k .n) (k .words)) (16 * k .n) (g .0) (g .1)) (λ g. g .2)
-      (λ k j s g. (
-        ap (λ (n : ℕ). cbcRefusal n (length (g .0)) (length (g .1)) (length (g .2))) (s .0),
-        map-used (λ n ws. cbcSeal (E article n ws) (16 * n) (g .0) (g .1)) k j s (seal-used article (k .n) (k .words) (j .words) (s .1) (16 * k .n) (g .0) (g .1)),
-      )) k j s
+  seals-used = chains-used (λ n ws. cbcSeal (E article n ws) (16 * n)) (λ n ws vs s. seal-used article n ws vs s (16 * n))
 
   pub opens-used : {g g′ : List ℕ × List ℕ × List ℕ} {y z : ℕ} {e f : List ℕ} → g ≡ g′ → OpensCbc k (g .0) (g .1) y (g .2) e → OpensCbc j (g′ .0) (g′ .1) z (g′ .2) f
       → (y ≡ z) × (e ≡ f)
-  opens-used =
-      two-calls (λ k g. cbcRefusal (k .n) (length (g .0)) (length (g .1)) (length (g .2))) (λ k g. cbcOpen (U article (k .n) (k .words)) (16 * k .n) (g .0) (g .1)) (λ g. g .2)
-      (λ k j s g. (
-        ap (λ (n : ℕ). cbcRefusal n (length (g .0)) (length (g .1)) (length (g .2))) (s .0),
-        map-used (λ n ws. cbcOpen (U article n ws) (16 * n) (g .0) (g .1)) k j s (open-used article (k .n) (k .words) (j .words) (s .1) (16 * k .n) (g .0) (g .1)),
-      )) k j s
+  opens-used = chains-used (λ n ws. cbcOpen (U article n ws) (16 * n)) (λ n ws vs s. open-used article n ws vs s (16 * n))
 
   pub runs-used : {g g′ : List ℕ × ℕ × List ℕ × List ℕ} {y z : ℕ} {e f : List ℕ} → g ≡ g′ → RunsCtr k (g .0) (g .1) (g .2) y (g .3) e
       → RunsCtr j (g′ .0) (g′ .1) (g′ .2) z (g′ .3) f → (y ≡ z) × (e ≡ f)

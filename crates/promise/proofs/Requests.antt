@@ -31,7 +31,7 @@ use Rattle.rows.specs.declared.Mixed.{Mixed}
 use Rattle.rows.specs.declared.Inverted.{Inverted}
 use Rattle.rows.specs.Rows.{rowRefusal, tableRefusal, mixed}
 use Rattle.rows.specs.Inverse.{constantRow, neutral, inverseRow, inverted}
-use Rattle.rows.proofs.Rows.{row-zero, row-iff, table-zero, table-five, table-iff, mixed-done, mixed-refused, row-accepted, lookup-made}
+use Rattle.rows.proofs.Rows.{row-iff, row-number, table-zero, table-five, table-iff, mixed-done, mixed-refused, row-accepted, lookup-made}
 use Rattle.rows.proofs.Ring.{product-comm, product-assoc, mix-order, mix-neutral, product-neutral}
 use Rattle.rows.proofs.Inverses.{inverse-row, product-inverse, only-inverse, no-inverse, mix-back, mix-forth, neutral-accepted, inverse-accepted, product-accepted, product-left, product-right, inverted-done, inverted-refused, published-inverse}
 use Rattle.judge.proofs.Verdicts.{one-verdict, zero-row-short, neutral-short, good-accepted, nine-at-most}
@@ -53,16 +53,13 @@ use Rattle.cmac.specs.Verification.{verification}
 use Rattle.cmac.proofs.Tags.{verification-number, refused-no}
 use Rattle.round_trips.proofs.Rows.{converted}
 use Rattle.operands.specs.Operands.{zeros}
-use Rattle.tape_rules.specs.declared.Stepped.{Stepped}
-use Rattle.tape_rules.specs.Steps.{Answer, keyRefusal, setKey, mapRefusal, mapBlock, mixWord, command, step}
-use Rattle.tape_rules.specs.Steps as tape
+use Rattle.tape_rules.specs.Steps.{keyRefusal, setKey, mapRefusal, mapBlock, mixWord, command, step}
 use Rattle.tape_rules.specs.Plain.{UnknownCommand}
-use Rattle.tape_rules.proofs.Cases.{step-room, step-ended, step-empty}
+use Rattle.tape_rules.proofs.Cases.{gives, step-room, step-ended, step-empty}
 use Rattle.tape_rules.proofs.Accepted.{Closed}
 use Rattle.tape_run.specs.declared.Answered.{Answered}
 use Rattle.tape_run.specs.Runs.{steps, tapeSteps, joined, tapeAnswers, lastRest, Ran, run}
-use Rattle.tape_run.specs.Runs as tape-run
-use Rattle.tape_run.proofs.Runs.{run-iff, run-whole}
+use Rattle.tape_run.proofs.Runs.{gives as run-gives, run-iff, run-whole}
 use Rattle.tape_run.proofs.Endings.{last-eight, Begun, last-well, eight-trails, eight-once, copy-whole, copy-short}
 use Rattle.promise.specs.Demands.{SameUsed, WorksTape}
 use Rattle.promise.specs.Requests.{MasksDoubled, OneRemainder, MakesTag, VerifiesTag, YesExactly, TagsTaken, AnswersTag, AnswersVerifying, EmptyRest, EndedState, FiveFirst, example, Gets, ExampleKept, EmptyTape, TellsItsEnd, OneEight, NothingLost, ShortTold, ShortCoefficients, EndsAfterHighestOne, TurnsNamed, MakesTable, MakesTheTableLent, by, EightTimesByRow, PublishedPower, XorByRow, RotatedByRow, LooksUp, MixesBy, AnswersMixing, TableNumber, AnswersTable, OneAfterAnother, OneAnswerAfterAnother, AcceptedTogether, OrderFree, AnswersInverse, OneInverse, PublishedInverse, GroupingFree, ChangesNoWord, ChangesNoRow, WordBack, Converts, OneVerdict, ZeroRowShort, NeutralShort, GoodAccepted, NineAtMost}
@@ -129,24 +126,18 @@ module _ (k j : WorkingKey) (s : SameUsed k j) where
 
 -- ---- Job 2
 
--- a step and a run, by what their definitions come to
-step-gives : (before : List ℕ) {a b : Answer} {answer : Stepped} {after : List ℕ} → a ≡ b → (answer ≡ tape.returned a) × (after ≡ over (a .written) before)
-    → (answer ≡ tape.returned b) × (after ≡ over (b .written) before)
-step-gives before e h = (h .0 ∙ ap (λ (a : Answer). tape.returned a) e, h .1 ∙ ap (λ (a : Answer). over (a .written) before) e)
-
 pub empty-rest : EmptyRest
-empty-rest t answer before after h l e = step-gives before (step-empty t [] (length before) l e refl) h
+empty-rest t answer before after h l e = gives before (sym (step-empty t [] (length before) l e refl)) h
 
 pub ended-state : EndedState
-ended-state t rest answer before after h l e = step-gives before (step-ended t rest (length before) l e) h
+ended-state t rest answer before after h l e = gives before (sym (step-ended t rest (length before) l e)) h
 
 pub five-first : FiveFirst
-five-first t rest answer before after h l = step-gives before (step-room t rest (length before) l) h
+five-first t rest answer before after h l = gives before (sym (step-room t rest (length before) l)) h
 
 gets : (tape bytes : List ℕ) → length tape ≤ 65536 → tapeAnswers tape ≡ bytes → Gets tape bytes
 gets tape bytes l e answer before after h r =
-    let q = run-whole tape (length before) r l ∙ ap (λ (x : List ℕ). record { number = 0; written = x }) e in
-    (h .0 ∙ ap (λ (x : Ran). tape-run.returned x) q, h .1 ∙ ap (λ (x : Ran). over (x .written) before) q)
+    run-gives before (sym (run-whole tape (length before) r l ∙ ap (λ (x : List ℕ). record { number = 0; written = x }) e)) h
 
 pub example-kept : ExampleKept
 unfolding tapeAnswers tapeSteps steps joined step command setKey keyRefusal mapBlock mapRefusal mixWord zeros legal legalLength tabulate xorSum byte join timesX shift mul element matrix dot mixBy mix row each words bytes
@@ -254,17 +245,13 @@ published-table g before after h p r l =
     h .1 ∙ ap (λ (n : ℕ). outcome n (merged g table1) before) (h .0 ∙ e) ∙ ap (λ (x : List ℕ). merged x table1) r ∙ sym p
 
 pub answers-mixing : (g : List ℕ) (w : ℕ) {answer : Mixed} → MixesBy g w answer → AnswersMixing g w answer
-answers-mixing g w h = rw h (go (eqb (rowSum g) 0) refl)
+answers-mixing g w h = rw h (by-row (row-number g refl))
   where
-    go : (b : Bool) → eqb (rowSum g) 0 ≡ b → AnswersMixing g w (mixed g w (rowRefusal g))
-    go true p =
-        let z : rowSum g ≡ 0 = eqb-true (rowSum g) 0 p in
-        let m = mixed-refused g w (rowRefusal g) (λ e. row-iff g .0 e z) in
-        inl (ap (λ (a : Mixed). a .number) m ∙ row-zero g z, ap (λ (a : Mixed). a .word) m, z)
-    go false p =
-        let h : rowSum g ≡ 0 → ⊥ = eqb-false (rowSum g) 0 p in
-        let m = mixed-done g w (row-iff g .1 h) in
-        inr (ap (λ (a : Mixed). a .number) m, ap (λ (a : Mixed). a .word) m, h)
+    by-row : ((rowSum g ≡ 0) × (rowRefusal g ≡ 13)) ⊎ ((rowSum g ≡ 0 → ⊥) × (rowRefusal g ≡ 0)) → AnswersMixing g w (mixed g w (rowRefusal g))
+    by-row (inl u) =
+        let m = mixed-refused g w (rowRefusal g) (λ e. row-iff g .0 e (u .0)) in
+        inl (ap (λ (a : Mixed). a .number) m ∙ u .1, ap (λ (a : Mixed). a .word) m, u .0)
+    by-row (inr u) = let m = mixed-done g w (u .1) in inr (ap (λ (a : Mixed). a .number) m, ap (λ (a : Mixed). a .word) m, u .0)
 
 table-number : (g : List ℕ) (room : ℕ) → TableNumber g room (tableRefusal g room)
 table-number g room = go (eqb (rowSum g) 0) (eqb room 256) refl refl
@@ -336,22 +323,20 @@ pub changes-no-row : ChangesNoRow
 changes-no-row g r = (product-neutral g r, product-comm neutral g ∙ product-neutral g r)
 
 pub one-inverse : OneInverse
-one-inverse g answer r q = rw q (go (eqb (rowSum g) 0) refl)
+one-inverse g answer r q = rw q (by-row (row-number g refl))
   where
-    go : (b : Bool) → eqb (rowSum g) 0 ≡ b → AnswersInverse g (inverted g (rowRefusal g))
-    go true p =
-        let z : rowSum g ≡ 0 = eqb-true (rowSum g) 0 p in
-        let k = inverted-refused g (rowRefusal g) (λ e. row-iff g .0 e z) in
-        inl (ap (λ (a : Inverted). a .number) k ∙ row-zero g z, ap (λ (a : Inverted). a .row) k, z, λ h i. no-inverse g h z (i .1))
-    go false p =
-        let h : rowSum g ≡ 0 → ⊥ = eqb-false (rowSum g) 0 p in
-        let k = inverted-done g (row-iff g .1 h) in
+    by-row : ((rowSum g ≡ 0) × (rowRefusal g ≡ 13)) ⊎ ((rowSum g ≡ 0 → ⊥) × (rowRefusal g ≡ 0)) → AnswersInverse g (inverted g (rowRefusal g))
+    by-row (inl u) =
+        let k = inverted-refused g (rowRefusal g) (λ e. row-iff g .0 e (u .0)) in
+        inl (ap (λ (a : Inverted). a .number) k ∙ u .1, ap (λ (a : Inverted). a .row) k, u .0, λ h i. no-inverse g h (u .0) (i .1))
+    by-row (inr u) =
+        let k = inverted-done g (u .1) in
         let e : inverted g (rowRefusal g) .row ≡ inverseRow g = ap (λ (a : Inverted). a .row) k in
         inr (
           ap (λ (a : Inverted). a .number) k,
-          rw e (inverse-row g, product-inverse g r h),
-          h,
-          λ x i. only-inverse g r h x (i .0) (i .1) ∙ sym e,
+          rw e (inverse-row g, product-inverse g r (u .0)),
+          u .0,
+          λ x i. only-inverse g r (u .0) x (i .0) (i .1) ∙ sym e,
         )
 
 pub the-published-inverse : PublishedInverse

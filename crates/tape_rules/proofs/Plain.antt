@@ -4,7 +4,7 @@ use mathlib.Core.Path.{_≡_, refl, sym, _∙_}
 use mathlib.Core.Bool.{Bool, true, false, not, false≢true, true≢false}
 use mathlib.Core.Logic.{inl, inr, _↔_}
 use mathlib.Core.List.{List, [], _∷_}
-use Prim.Native.Nat.{ℕ, suc, _*_, _≤_, _<_}
+use Prim.Native.Nat.{ℕ, suc, _*_}
 use native.Mathlib.Omega.{arith}
 use borrow.Author.Tests.{not-true, not-false, eqb-true, eqb-false, ltb-true, ltb-false}
 use lib.Dec.{eqb, ltb}
@@ -17,7 +17,7 @@ use Rattle.labyrinth.specs.Refusals.{legal, legalLength}
 use Rattle.labyrinth.proofs.Refusals.{legal-iff, legalLength-iff}
 use Rattle.operands.specs.Operands.{zeros}
 use Rattle.tape_rules.specs.declared.Tape.{Tape}
-use Rattle.tape_rules.specs.Steps.{Answer, ended, refuses, whole, judged, keyRefusal, setKey, mapRefusal, mapBlock, mixWord, command, step}
+use Rattle.tape_rules.specs.Steps.{Answer, whole, judged, keyRefusal, setKey, mapRefusal, mapBlock, mixWord, command, step}
 use Rattle.tape_rules.specs.Plain.{WholeSays, KeySays, BlockSays, WordSays, CommandSays, StepSays}
 use Rattle.tape_rules.proofs.Accepted.{unused-iff}
 
