@@ -1,11 +1,11 @@
 -- The substitution (the article's section 3.7). It is a list s of 256 bytes: the published one, Table 1, stands in Published.
 -- Assumes nothing.
 use Prim.Native.Nat.{ℕ, suc}
-use mathlib.Core.Bool.{true, false}
+use mathlib.Core.Bool.{Bool, true, false, _&&_}
 use mathlib.Core.List.{List, [], _∷_}
 use lib.Dec.{eqb}
-use lib.ListN.{getD}
-use Rattle.forms.specs.Lists.{tabulate}
+use lib.ListN.{getD, length}
+use Rattle.forms.specs.Lists.{tabulate, below, distinct}
 
 -- 3.7: S(x) stands at place x of the list
 unfoldable pub sub : List ℕ → ℕ → ℕ
@@ -20,3 +20,7 @@ subInv (x ∷ s) y = elim (eqb x y) [ true ↦ 0 | false ↦ suc (subInv s y) ]
 -- place, and for one that s hasn't the length of s, which is no byte if s has 256 entries
 unfoldable pub invert : List ℕ → List ℕ
 invert s = tabulate 256 (subInv s)
+
+-- document 02, Job 7: '256 different bytes'
+unfoldable pub different : List ℕ → Bool
+different s = eqb (length s) 256 && (below 256 s && distinct s)

@@ -30,6 +30,11 @@ pub unless-plain : {holds further : Type 0} {a : ℕ} (b : Bool) (number r : ℕ
 unless-plain true number r e h f = inr (h .0 refl, f e)
 unless-plain false number r e h f = inl (λ c. false≢true (h .1 c), e)
 
+-- what holds is asked for again
+pub unless-held : {holds otherwise further : Type 0} → holds → Unless holds otherwise further → further
+unless-held h (inl u) = absurd (u .0 h)
+unless-held h (inr u) = u .1
+
 -- the number is 0 exactly where all that is asked for holds: by a first check and what the further ones come to, by one, three or four checks
 module _ {r : ℕ} where
   unless-first : {holds further rest : Type 0} {i : ℕ} → Unless holds (r ≡ suc i) further → (further → ((r ≡ 0) ↔ rest)) → (r ≡ 0) ↔ (holds × rest)

@@ -198,29 +198,29 @@ padded-zero ws i h = getD-padded ws i ∙ List·getD-eq-default ws 0 h
 -- ---- what expansion answers
 
 -- the number that it was given, and with a refusal the blank key
-module _ (SM : ℕ → ℕ) (n l : ℕ) (key : List ℕ) where
-  pub expansion-number : (r : ℕ) → expansion SM n l key r .number ≡ r
+module _ (SM : ℕ → ℕ) (set n l : ℕ) (key : List ℕ) where
+  pub expansion-number : (r : ℕ) → expansion SM set n l key r .number ≡ r
   unfolding expansion
   expansion-number zero = refl
   expansion-number (suc r) = refl
 
-  pub expansion-blank : (r : ℕ) → (r ≡ 0 → ⊥) → expansion SM n l key r .key ≡ record { n = 0; words = padded [] }
+  pub expansion-blank : (r : ℕ) → (r ≡ 0 → ⊥) → expansion SM set n l key r .key ≡ record { n = 0; set = 0; words = padded [] }
   unfolding expansion
   expansion-blank zero h = absurd (h refl)
   expansion-blank (suc r) h = refl
 
--- a refused key, by its number
-pub refused-is : (SM : ℕ → ℕ) (n l : ℕ) (key : List ℕ) (number : ℕ) {r : ℕ} {x : Expanded} → number ≡ r → (number ≡ 0 → ⊥)
-    → x ≡ record { number = number; key = record { n = 0; words = padded [] } } → x ≡ expansion SM n l key r
-unfolding expansion
-refused-is SM n l key zero e z p = absurd (z refl)
-refused-is SM n l key (suc m) e z p = p ∙ ap (expansion SM n l key) e
+  -- a refused key, by its number
+  pub refused-is : (number : ℕ) {r : ℕ} {x : Expanded} → number ≡ r → (number ≡ 0 → ⊥)
+      → x ≡ record { number = number; key = record { n = 0; set = 0; words = padded [] } } → x ≡ expansion SM set n l key r
+  unfolding expansion
+  refused-is zero e z p = absurd (z refl)
+  refused-is (suc m) e z p = p ∙ ap (expansion SM set n l key) e
 
 -- a key that is taken; the engine's word map agrees with SM on words
-made : ℕ → List ℕ → Expanded
-made n w = record { number = 0; key = record { n = n; words = w } }
+made : ℕ → ℕ → List ℕ → Expanded
+made set n w = record { number = 0; key = record { n = n; set = set; words = w } }
 
-pub taken-is : (SM SM′ : ℕ → ℕ) → ((x : ℕ) → x < 2 ^ 64 → SM′ x ≡ SM x) → (n l : ℕ) (key : List ℕ) {r : ℕ} {w : List ℕ} → r ≡ 0
-    → w ≡ padded (expandedWords SM′ n l key) → record { number = 0; key = record { n = n; words = w } } ≡ expansion SM n l key r
+pub taken-is : (SM SM′ : ℕ → ℕ) → ((x : ℕ) → x < 2 ^ 64 → SM′ x ≡ SM x) → (set n l : ℕ) (key : List ℕ) {r : ℕ} {w : List ℕ} → r ≡ 0
+    → w ≡ padded (expandedWords SM′ n l key) → record { number = 0; key = record { n = n; set = set; words = w } } ≡ expansion SM set n l key r
 unfolding expansion made
-taken-is SM SM′ h n l key e p = ap (made n) (p ∙ ap padded (expandedWords-agree SM′ SM h n l key)) ∙ ap (expansion SM n l key) (sym e)
+taken-is SM SM′ h set n l key e p = ap (made set n) (p ∙ ap padded (expandedWords-agree SM′ SM h n l key)) ∙ ap (expansion SM set n l key) (sym e)

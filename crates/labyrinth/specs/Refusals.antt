@@ -35,11 +35,20 @@ blockRefusal n source destination =
 unfoldable pub expandRefusal : ℕ → ℕ → ℕ → ℕ
 expandRefusal n l key = unless (legal n) 1 (unless (legalLength l) 2 (unless (eqb key (8 * (n * l))) 3 0))
 
+-- document 02, Job 7: 'block operations, runs and tags check 15 right after 1': under a working key whose set is loaded or isn't, of an operation
+-- that else answers number
+unfoldable pub underKey : ℕ → Bool → ℕ → ℕ
+underKey n loaded number = unless (legal n) 1 (unless loaded 15 number)
+
+-- 'expansion right after 2'
+unfoldable pub underLength : ℕ → ℕ → Bool → ℕ → ℕ
+underLength n l loaded number = unless (legal n) 1 (unless (legalLength l) 2 (unless loaded 15 number))
+
 -- a list of at most 32 words, with zeros behind it
 unfoldable pub padded : List ℕ → List ℕ
 padded ws = ws ++ replicate (32 - length ws) 0
 
--- what expansion answers, by its number: the working key, or n = 0 and all words zero
-unfoldable pub expansion : (ℕ → ℕ) → ℕ → ℕ → List ℕ → ℕ → Expanded
-expansion SM n l key zero = record { number = 0; key = record { n = n; words = padded (expandedWords SM n l key) } }
-expansion SM n l key (suc r) = record { number = suc r; key = record { n = 0; words = padded [] } }
+-- what expansion answers, by its number: the working key, which names its set, or n = 0, set 0 and all words zero
+unfoldable pub expansion : (ℕ → ℕ) → ℕ → ℕ → ℕ → List ℕ → ℕ → Expanded
+expansion SM set n l key zero = record { number = 0; key = record { n = n; set = set; words = padded (expandedWords SM n l key) } }
+expansion SM set n l key (suc r) = record { number = suc r; key = record { n = 0; set = 0; words = padded [] } }

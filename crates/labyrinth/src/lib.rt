@@ -1,12 +1,13 @@
 // The records of the cipher, the exchange of the halves, and the refusals. Its definitions stand in specs/, its laws in proofs/.
 
 ghost use mathlib.Core.Path.{_≡_};
-ghost use Rattle.labyrinth.specs.Refusals.{legal, legalLength, blockRefusal, expandRefusal};
+ghost use Rattle.labyrinth.specs.Refusals.{legal, legalLength, blockRefusal, expandRefusal, underKey, underLength};
 
-// A working key: half-block k_j, j = 0 to 7, is words jn to jn + n - 1. One made by hand is taken too;
-// its n is never adjusted.
+// A working key: half-block k_j, j = 0 to 7, is words jn to jn + n - 1, and it names its set of tables. One made by hand is
+// taken too; its n and its set are never adjusted.
 pub struct WorkingKey {
     pub n: usize,
+    pub set: usize,
     pub words: [u64; 32],
 }
 
@@ -90,4 +91,34 @@ pub fn expand_refusal(n: usize, l: usize, key: usize) -> u8
         return 3;
     }
     0
+}
+
+// The number of an operation under a working key, by n, whether the set that the key names is loaded, and the operation's own number: 15
+// comes right after 1.
+pub fn under_key(n: usize, loaded: bool, number: u8) -> u8
+    ensures { λ r. ⌜ r ≡ underKey n loaded number ⌝ }
+{
+    if !is_legal(n) {
+        return 1;
+    }
+    if !loaded {
+        return 15;
+    }
+    number
+}
+
+// The number of an expansion for a set: 15 comes right after 2.
+pub fn under_length(n: usize, l: usize, loaded: bool, number: u8) -> u8
+    ensures { λ r. ⌜ r ≡ underLength n l loaded number ⌝ }
+{
+    if !is_legal(n) {
+        return 1;
+    }
+    if !is_legal_length(l) {
+        return 2;
+    }
+    if !loaded {
+        return 15;
+    }
+    number
 }
