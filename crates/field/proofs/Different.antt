@@ -59,6 +59,7 @@ first-place y (x ∷ s) e = go (eqb x y) refl e (first-place y s)
   where
     Here : ℕ → Type 0
     Here k = (k < suc (length s)) × (getD (x ∷ s) k 0 ≡ y)
+
     go : (b : Bool) → eqb x y ≡ b → (b || has y s) ≡ true → (has y s ≡ true → (subInv s y < length s) × (getD s (subInv s y) 0 ≡ y)) → Here (subInv (x ∷ s) y)
     go true p e ih = subst Here (sym (first-hit x y s (eqb-true x y p))) (omega arith, eqb-true x y p)
     go false p e ih = let r = ih e in subst Here (sym (first-miss x y s (eqb-false x y p))) (omega (arith, r .0), r .1)
@@ -75,6 +76,7 @@ different-undo s d = record {
   where
     k : (length s ≡ 256) × (below 256 s ≡ true) × (distinct s ≡ true)
     k = different-split s d
+
     found : (y : ℕ) → y < 256 → (subInv s y < length s) × (getD s (subInv s y) 0 ≡ y)
     found y l = first-place y s (all-there 256 s (k .2) (k .1) (k .0) y l)
 

@@ -38,6 +38,7 @@ below-iff n s = (there s, back s)
     there [] e j h = let z : ⊥ = omega arith in absurd z
     there (x ∷ s) e zero h = ltb-true x n (and-both (ltb x n) (below n s) e .0)
     there (x ∷ s) e (suc j) h = there s (and-both (ltb x n) (below n s) e .1) j (omega arith)
+
     back : (s : List ℕ) → ((j : ℕ) → j < length s → getD s j 0 < n) → below n s ≡ true
     back [] h = refl
     back (x ∷ s) h = rw (lt-ltb x n (h 0 (omega arith))) (back s (λ j l. h (suc j) (omega arith)))
@@ -58,6 +59,7 @@ distinct-iff s = (there s, back s)
     there (x ∷ s) d (suc i) zero h k e =
         absurd (false≢true (sym (not-true _ (and-both (not (has x s)) (distinct s) d .0)) ∙ ap (λ (y : ℕ). has y s) (sym e) ∙ has-at s i (omega arith)))
     there (x ∷ s) d (suc i) (suc j) h k e = ap suc (there s (and-both (not (has x s)) (distinct s) d .1) i j (omega arith) (omega arith) e)
+
     back : (s : List ℕ) → OneToOne s → distinct s ≡ true
     back [] h = refl
     back (x ∷ s) h =
@@ -122,7 +124,7 @@ below-without n (y ∷ s) d e =
     go (eqb y n) refl (and-both (not (has y s)) (distinct s) d) (and-both (ltb y (suc n)) (below (suc n) s) e) (below-without n s)
   where
     go : (b : Bool) → eqb y n ≡ b → (not (has y s) ≡ true) × (distinct s ≡ true) → (ltb y (suc n) ≡ true) × (below (suc n) s ≡ true)
-      → (distinct s ≡ true → below (suc n) s ≡ true → below n (without n s) ≡ true) → below n (pick b y s (without n s)) ≡ true
+        → (distinct s ≡ true → below (suc n) s ≡ true → below n (without n s) ≡ true) → below n (pick b y s (without n s)) ≡ true
     go true p h k ih = below-less n s (ap (λ (z : ℕ). has z s) (sym (eqb-true y n p)) ∙ not-true _ (h .0)) (k .1)
     go false p h k ih = rw (lt-ltb y n (strict y n (ltb-true y (suc n) (k .0)) (eqb-false y n p))) (ih (h .1) (k .1))
 
@@ -142,6 +144,7 @@ all-there n s d e l y h = go (has y s) refl
   where
     more : has y s ≡ false → length (y ∷ s) ≤ n
     more p = at-most n (y ∷ s) (rw p d) (rw (lt-ltb y n h) e)
+
     go : (b : Bool) → has y s ≡ b → b ≡ true
     go true p = refl
     go false p = let m = more p in let z : ⊥ = omega arith in absurd z
