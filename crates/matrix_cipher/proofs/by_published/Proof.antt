@@ -5,8 +5,8 @@ use borrow.Author.Needs.{needs}
 use Rattle.field.specs.Mixing.{matrix}
 use Rattle.labyrinth.proofs.Agree.{published-matrix-agrees}
 use Rattle.labyrinth.proofs.Operations.{block-way}
-use Rattle.matrix_cipher.proofs.by_matrix.Statement.{statement}
-use Rattle.matrix_cipher.proofs.by_matrix.Tie as tie
+use Rattle.matrix_cipher.proofs.by_published.Statement.{statement}
+use Rattle.matrix_cipher.proofs.by_published.Tie as tie
 
 row-requires : tie.Need-row-requires
 row-requires c κs = search needs
@@ -40,8 +40,8 @@ returns c =
           (a .back) (a .k .n) (a .k .words) (c .before .before .before .before .before .before .before .schedule .ensures) (a .src .now) (a .dst .now) (applied .0) (applied .1),
     )
 
-pub by-matrix-spec : {M : Type 1} → statement M
-by-matrix-spec =
+pub by-published-spec : {M : Type 1} → statement M
+by-published-spec =
     tie.close
     (tie.spec
     row-requires
