@@ -50,7 +50,7 @@ equal-requires c κs = search needs
 returns-2 : tie.Need-returns-2
 returns-2 c =
     let e = c .before .before .before in
-    compared-yes _ _ _ _ (e .before .cmac-refusal .ensures) (e .if1 .left) (c .before .before .last-of .ensures) (c .equal .ensures)
+    compared-yes _ _ _ _ (e .before .cmac-refusal .ensures) (e .if1 .left) (last (c .before .before)) (c .equal .ensures)
 
 pub verify-lent-spec : {M : Type 1} → statement M
 verify-lent-spec =
