@@ -1,10 +1,10 @@
 -- What one publisher gets does not depend on the other: two stores that it can't tell apart answer it alike, call by call.
 -- Assumes nothing.
 use mathlib.Core.Path.{_≡_, refl, sym, ap, ap₂, subst, _∙_}
-use mathlib.Core.Bool.{Bool, true, false, not, false≢true, _&&_, _||_}
+use mathlib.Core.Bool.{Bool, true, false, not, false≢true, _&&_}
 use mathlib.Core.Logic.{_⊎_, inl, inr}
 use mathlib.Core.List.{List, [], _∷_}
-use Prim.Native.Nat.{ℕ, zero, suc, _-_, _<_, _≤_}
+use Prim.Native.Nat.{ℕ, zero, suc, _-_, _<_}
 use native.Mathlib.Decide.{decLt}
 use native.Mathlib.Omega.{arith}
 use borrow.Author.Tests.{eqb-true, eqb-false}
@@ -19,9 +19,9 @@ use Rattle.labyrinth.specs.Cipher.{Parts}
 use Rattle.rows.specs.Rows.{accepted}
 use Rattle.sets.specs.declared.Set.{Set}
 use Rattle.sets.specs.declared.Store.{Store}
-use Rattle.sets.specs.Sets.{setIn, partsIn, loaded, held, Held, inStore, loadRefusal, load, withSet, takeRefusal, take, withTaken}
+use Rattle.sets.specs.Sets.{setIn, held, Held, inStore, loadRefusal, load, withSet, takeRefusal, take, withTaken}
 use Rattle.sets.proofs.Sets.{loaded-alike, parts-alike, held-iff, inside-iff, load-iff}
-use Rattle.publishers.specs.Calls.{Use, Call, loads, takes, uses, Answer, number, named, used, answer, after, got, visible, forget}
+use Rattle.publishers.specs.Calls.{Call, loads, takes, uses, number, named, used, answer, after, got, visible, forget}
 use Rattle.publishers.specs.Isolation.{UseReads, TakeReads, Isolated, SameToOne, LoadAlone}
 use Rattle.publishers.proofs.Stores.{load-is, take-is, refused-load, refused-take, loads-to, takes-to, same-sets}
 

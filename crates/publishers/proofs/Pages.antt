@@ -1,11 +1,10 @@
 -- What one store sealed another opens, if both have the key's set alike; and one store kept throughout has a set as it was, unless it was loaded anew.
 -- Assumes nothing.
 use mathlib.Core.Path.{_≡_, refl, sym, ap, ap₂, _∙_}
-use mathlib.Core.Bool.{Bool, true, false, false≢true, _&&_}
+use mathlib.Core.Bool.{Bool, true, false, _&&_}
 use mathlib.Core.List.{List, [], _∷_}
-use Prim.Native.Nat.{ℕ, zero, suc, _*_}
-use native.Mathlib.Omega.{arith}
-use borrow.Author.Tests.{eqb-true, eqb-false}
+use Prim.Native.Nat.{ℕ, _*_}
+use borrow.Author.Tests.{eqb-false}
 use lib.Dec.{eqb}
 use lib.ListN.{length}
 use Rattle.forms.specs.Refusals.{outcome}
@@ -13,12 +12,12 @@ use Rattle.forms.proofs.Booleans.{or-neither}
 use Rattle.forms.proofs.Refusals.{unless-zero}
 use Rattle.labyrinth.specs.declared.Expanded.{Expanded}
 use Rattle.labyrinth.specs.Cipher.{Parts, partsOf}
-use Rattle.labyrinth.specs.Keys.{E, U, expandedWords}
-use Rattle.labyrinth.specs.Refusals.{legal, underKey, underLength, blockRefusal, expandRefusal, padded, expansion}
-use Rattle.labyrinth.proofs.Undo.{Sound, U-E, E-U}
+use Rattle.labyrinth.specs.Keys.{E, U}
+use Rattle.labyrinth.specs.Refusals.{legal, underKey, underLength, blockRefusal, expandRefusal, expansion}
+use Rattle.labyrinth.proofs.Undo.{U-E, E-U}
 use Rattle.labyrinth.proofs.Refusals.{block-iff}
 use Rattle.labyrinth.proofs.Expansion.{expansion-number}
-use Rattle.modes.specs.Cbc.{cbcSeal, cbcOpen}
+use Rattle.modes.specs.Cbc.{cbcOpen}
 use Rattle.modes.specs.Ctr.{ctr}
 use Rattle.modes.specs.Refusals.{cbcRefusal, ctrRefusal}
 use Rattle.modes.proofs.Again.{cbc-again, ctr-again}
@@ -26,30 +25,7 @@ use Rattle.sets.specs.declared.Set.{Set}
 use Rattle.sets.specs.declared.Store.{Store}
 use Rattle.sets.specs.Sets.{setIn, substitutionIn, rowIn, partsIn, loaded, loadRefusal, load, take}
 use Rattle.sets.proofs.Sets.{loaded-sound, loaded-alike}
-use Rattle.publishers.specs.Calls.{
-  Call,
-  loads,
-  takes,
-  uses,
-  Answer,
-  number,
-  key,
-  buffer,
-  verdict,
-  left,
-  enciphers,
-  deciphers,
-  seals,
-  opens,
-  counts,
-  expands,
-  named,
-  used,
-  answer,
-  after,
-  afterAll,
-  renewed,
-}
+use Rattle.publishers.specs.Calls.{Call, loads, takes, uses, Answer, number, key, buffer, verdict, left, named, used, answer, after, afterAll, renewed}
 use Rattle.publishers.specs.Pages.{SameSet, KeptUnlessRenewed, SetsUndo, BlocksComeBackIn, CbcOpensAgainIn, CtrOpensAgainIn, ExpandsIn}
 use Rattle.publishers.proofs.Stores.{load-is, refused-load, load-leaves, take-sets, same-sets}
 

@@ -1,25 +1,28 @@
 -- What loads and takes do to a store, and what a fresh one has.
 -- Assumes nothing.
-use mathlib.Core.Path.{_≡_, refl, sym, ap, ap₂, _∙_}
-use mathlib.Core.Bool.{Bool, true, false, false≢true}
-use mathlib.Core.Logic.{_⊎_, inl, inr}
+use mathlib.Core.Path.{_≡_, refl, sym, ap, _∙_}
+use mathlib.Core.Bool.{true, false, false≢true}
+use mathlib.Core.Logic.{_⊎_, inl, inr, ⊎-elim}
 use mathlib.Core.List.{List}
-use Prim.Native.Nat.{ℕ, zero, suc, _<_}
+use Prim.Native.Nat.{ℕ, zero, suc}
 use native.Mathlib.Omega.{arith}
-use lib.ListN.{length, getD, set, replicate}
+use lib.ListN.{getD, replicate}
 use lib.Seq.{getD-set-same, getD-set-other}
 use Rattle.forms.specs.Lists.{has, distinct, below}
-use Rattle.field.specs.Substitution.{different}
+use Rattle.forms.specs.Refusals.{Unless}
+use Rattle.forms.proofs.Refusals.{unless-held}
+use Rattle.field.specs.Substitution.{different, Different}
+use Rattle.field.specs.Mixing.{rowSum}
 use Rattle.field.proofs.Different.{different-iff}
 use Rattle.sets.specs.declared.Set.{Set}
 use Rattle.sets.specs.declared.Store.{Store}
-use Rattle.sets.specs.declared.Changed.{Changed}
-use Rattle.sets.specs.Sets.{blank, nowhere, setIn, substitutionIn, loaded, Loaded, freshStore, changed, loadRefusal, load, withSet, takeRefusal, take, withTaken}
-use Rattle.sets.proofs.Sets.{setIn-zero, setIn-other, loaded-alike, loaded-iff, load-iff, take-iff}
-use Rattle.publishers.specs.Calls.{loads, takes, uses, after, afterAll}
+use Rattle.sets.specs.Sets.{blank, nowhere, setIn, substitutionIn, rowIn, Loaded, Held, freshStore, changed, loadRefusal, load, withSet, takeRefusal, take, withTaken}
+use Rattle.sets.proofs.Sets.{setIn-zero, setIn-other, loaded-alike, loaded-iff, load-number, load-iff, take-iff}
+use Rattle.publishers.specs.Calls.{afterAll}
 use Rattle.publishers.specs.Stores.{
   ZeroPublished,
   ZeroHeld,
+  UnloadedWouldBeRefused,
   FreshLoaded,
   FreshTaken,
   LoadPuts,
@@ -140,6 +143,37 @@ zero-published s cs = setIn-zero (afterAll s cs) 0 refl
 
 pub zero-held : ZeroHeld
 zero-held s p v g e = load-iff s p 0 v g .0 (sym (load-is s p 0 v g) ∙ e) .3 (inl refl)
+
+pub unloaded-would-be-refused : UnloadedWouldBeRefused
+unloaded-would-be-refused s p i l m n =
+    let v = substitutionIn s i in
+    let g = rowIn s i in
+    let number = load-is s p i v g in
+    let plain = load-number s p i v g number in
+    let rest = unless-held (l, m) plain in
+    (λ h. bad (λ d f. h (inr (m, d, f))) rest, λ r h. good h r rest)
+  where
+    k : ℕ
+    k = load s p i (substitutionIn s i) (rowIn s i) .number
+
+    Rest : Type 0
+    Rest = Unless (Different (substitutionIn s i)) (k ≡ 14) (Unless (rowSum (rowIn s i) ≡ 0 → ⊥) (k ≡ 13) (Unless (Held s i → ⊥) (k ≡ 16) (k ≡ 0)))
+
+    bad : (Different (substitutionIn s i) → (rowSum (rowIn s i) ≡ 0 → ⊥) → ⊥) → Rest → (k ≡ 14) ⊎ (k ≡ 13)
+    bad h (inl r) = inl (r .1)
+    bad h (inr (d, inl r)) = inr (r .1)
+    bad h (inr (d, inr (f, r))) = absurd (h d f)
+
+    last : {e : ℕ} → Unless (Held s i → ⊥) (k ≡ 16) (k ≡ 0) → k ≡ e → (e ≡ 16) ⊎ (e ≡ 0)
+    last (inl r) e = inl (sym e ∙ r .1)
+    last (inr r) e = inr (sym e ∙ r .1)
+
+    good : Loaded s i → (k ≡ 14) ⊎ (k ≡ 13) → Rest → ⊥
+    good (inl z) r u = n z
+    good (inr h) r (inl u) = u .0 (h .1)
+    good (inr h) r (inr (d, inl u)) = u .0 (h .2)
+    good (inr h) (inl e) (inr (d, inr (f, u))) = ⊎-elim (λ x. omega (arith, x)) (λ x. omega (arith, x)) (last u e)
+    good (inr h) (inr e) (inr (d, inr (f, u))) = ⊎-elim (λ x. omega (arith, x)) (λ x. omega (arith, x)) (last u e)
 
 -- zeros are no 256 different bytes
 zeros-not : different (replicate 256 0) ≡ false

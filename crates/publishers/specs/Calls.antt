@@ -19,7 +19,6 @@ use Rattle.modes.specs.Refusals.{cbcRefusal, ctrRefusal, cmacRefusal}
 use Rattle.cmac.specs.declared.Verified.{Verified}
 use Rattle.cmac.specs.Verification.{verification}
 use Rattle.sets.specs.declared.Store.{Store}
-use Rattle.sets.specs.declared.Changed.{Changed}
 use Rattle.sets.specs.Sets.{partsIn, loaded, loadRefusal, load, takeRefusal, take}
 
 -- every operation that names a set, with its arguments, `before` being what its destination holds. A block is enciphered or deciphered by either

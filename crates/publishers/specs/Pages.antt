@@ -9,12 +9,11 @@ use Prim.Native.Nat.{ℕ, _*_, _^_, _<_}
 use lib.ListN.{length, getD}
 use Rattle.labyrinth.specs.declared.WorkingKey.{WorkingKey}
 use Rattle.labyrinth.specs.declared.Expanded.{Expanded}
-use Rattle.labyrinth.specs.Cipher.{Parts}
 use Rattle.labyrinth.specs.Keys.{E, U, expandedWords}
 use Rattle.labyrinth.specs.Refusals.{padded}
 use Rattle.sets.specs.declared.Store.{Store}
 use Rattle.sets.specs.Sets.{substitutionIn, rowIn, partsIn, loaded}
-use Rattle.publishers.specs.Calls.{Call, Use, expands, enciphers, deciphers, seals, opens, counts, uses, Answer, key, buffer, answer, afterAll, renewed}
+use Rattle.publishers.specs.Calls.{Call, Use, expands, enciphers, deciphers, seals, opens, counts, uses, key, buffer, answer, afterAll, renewed}
 
 -- a list of bytes, a list of words of 64 bits
 abbrev pub Bytes : List ℕ → Type 0

@@ -2,13 +2,13 @@
 -- A store has four sets and two marks, as every store of the code has; where that matters it is asked for.
 -- Assumes nothing.
 use mathlib.Core.Path.{_≡_}
-use mathlib.Core.Logic.{_↔_}
+use mathlib.Core.Logic.{_⊎_, _↔_}
 use mathlib.Core.List.{List}
 use Prim.Native.Nat.{ℕ, _<_}
 use lib.ListN.{length, getD}
 use Rattle.sets.specs.declared.Store.{Store}
 use Rattle.sets.specs.declared.Changed.{Changed}
-use Rattle.sets.specs.Sets.{published, setIn, Loaded, freshStore, load, take}
+use Rattle.sets.specs.Sets.{published, setIn, substitutionIn, rowIn, Loaded, freshStore, load, take}
 use Rattle.publishers.specs.Calls.{Call, afterAll}
 
 -- "set 0 is in any store the published one and counts as held for good": it is after any calls, and no load of it is accepted
@@ -24,6 +24,12 @@ FreshLoaded = (i : ℕ) → Loaded freshStore i ↔ (i ≡ 0)
 
 abbrev pub FreshTaken : Type 0
 FreshTaken = (p i : ℕ) → p < 2 → i < 4 → getD (freshStore .taken) p 0 ≡ i → ⊥
+
+-- "Any other set that loading would refuse with 14 or 13 counts as unloaded."
+abbrev pub UnloadedWouldBeRefused : Type 0
+UnloadedWouldBeRefused =
+    (s : Store) (p i : ℕ) → p < 2 → i < 4 → (i ≡ 0 → ⊥)
+    → (Loaded s i → ⊥) ↔ ((load s p i (substitutionIn s i) (rowIn s i) .number ≡ 14) ⊎ (load s p i (substitutionIn s i) (rowIn s i) .number ≡ 13))
 
 -- "A publisher loads a set": an accepted load puts the substitution and the row there, and leaves the other sets and what is taken
 abbrev pub LoadPuts : Type 0
