@@ -11,28 +11,45 @@ ghost use Rattle.forms.specs.Refusals.{outcome};
 ghost use Rattle.labyrinth.specs.Cipher.{article};
 ghost use Rattle.labyrinth.specs.Keys.{E, U};
 ghost use Rattle.labyrinth.specs.Working.{Size};
-ghost use Rattle.labyrinth.specs.Lent.{Gives};
+ghost use Rattle.labyrinth.specs.Lent.{lent, Gives};
 ghost use Rattle.modes.specs.Cbc.{cbcSeal, cbcOpen};
 ghost use Rattle.modes.specs.Refusals.{cbcRefusal};
 
-// Seals src to dst, after the start block.
-pub fn seal(k: WorkingKey, start: &[u8], src: &[u8], dst: &mut [u8]) -> u8
-    ensures number { λ r. ⌜ r ≡ cbcRefusal (k .n) (length (now (start .entry))) (length (now (src .entry))) (length (now (dst .entry))) ⌝ }
-    ensures run { λ r. ⌜ now (dst .exit) ≡ outcome r (cbcSeal (E article (k .n) (k .words)) (16 * k .n) (now (start .entry)) (now (src .entry))) (now (dst .entry)) ⌝ }
+// Seals src to dst, after the start block, with the tables lent.
+fn seal_lent(
+    t: &[u64; 256],
+    s: &[u8; 256],
+    u: &[u8; 256],
+    n: usize,
+    ks: &[u64; 80],
+    start: &[u8],
+    src: &[u8],
+    dst: &mut [u8],
+) -> u8
+    ensures number { λ r. ⌜ r ≡ cbcRefusal n (length (now (start .entry))) (length (now (src .entry))) (length (now (dst .entry))) ⌝ }
+    ensures run { λ r. ⌜ now (dst .exit) ≡ outcome r (cbcSeal (lent n (now (t .entry)) (now (s .entry)) (now (u .entry)) (now (ks .entry))) (16 * n) (now (start .entry)) (now (src .entry))) (now (dst .entry)) ⌝ }
 {
-    let n = k.n;
     let number = run_refusals::cbc_refusal(n, start.len(), src.len(), dst.len());
     if number != 0 {
         return number;
     }
+    let size = start.len();
+    let mut chain = strings::block_copy(start);
+    chains::chain(t, s, u, n, ks, &mut chain[..size], src, dst);
+    0
+}
+
+// Seals src to dst, after the start block, with the published set, whichever set the key names.
+pub fn seal_published(k: WorkingKey, start: &[u8], src: &[u8], dst: &mut [u8]) -> u8
+    ensures number { λ r. ⌜ r ≡ cbcRefusal (k .n) (length (now (start .entry))) (length (now (src .entry))) (length (now (dst .entry))) ⌝ }
+    ensures run { λ r. ⌜ now (dst .exit) ≡ outcome r (cbcSeal (E article (k .n) (k .words)) (16 * k .n) (now (start .entry)) (now (src .entry))) (now (dst .entry)) ⌝ }
+{
+    let n = k.n;
     let t = table_cipher::table();
     let s = table_cipher::substitution();
     let u = table_cipher::inverse();
     let ks = table_cipher::schedule(k, false);
-    let size = start.len();
-    let mut chain = strings::block_copy(start);
-    chains::chain(&t, &s, &u, n, &ks, &mut chain[..size], src, dst);
-    0
+    seal_lent(&t, &s, &u, n, &ks, start, src, dst)
 }
 
 // Opens a run with the tables lent. Every block is mapped, XOR the sealed block before it; before the first stands the start block.
@@ -59,20 +76,37 @@ fn open_run(
     }
 }
 
-// Opens src to dst, after the start block.
-pub fn open(k: WorkingKey, start: &[u8], src: &[u8], dst: &mut [u8]) -> u8
-    ensures number { λ r. ⌜ r ≡ cbcRefusal (k .n) (length (now (start .entry))) (length (now (src .entry))) (length (now (dst .entry))) ⌝ }
-    ensures run { λ r. ⌜ now (dst .exit) ≡ outcome r (cbcOpen (U article (k .n) (k .words)) (16 * k .n) (now (start .entry)) (now (src .entry))) (now (dst .entry)) ⌝ }
+// Opens src to dst, after the start block, with the tables lent.
+fn open_lent(
+    t: &[u64; 256],
+    s: &[u8; 256],
+    u: &[u8; 256],
+    n: usize,
+    ks: &[u64; 80],
+    start: &[u8],
+    src: &[u8],
+    dst: &mut [u8],
+) -> u8
+    ensures number { λ r. ⌜ r ≡ cbcRefusal n (length (now (start .entry))) (length (now (src .entry))) (length (now (dst .entry))) ⌝ }
+    ensures run { λ r. ⌜ now (dst .exit) ≡ outcome r (cbcOpen (lent n (now (t .entry)) (now (s .entry)) (now (u .entry)) (now (ks .entry))) (16 * n) (now (start .entry)) (now (src .entry))) (now (dst .entry)) ⌝ }
 {
-    let n = k.n;
     let number = run_refusals::cbc_refusal(n, start.len(), src.len(), dst.len());
     if number != 0 {
         return number;
     }
+    open_run(t, s, u, n, ks, start, src, dst);
+    0
+}
+
+// Opens src to dst, after the start block, with the published set, whichever set the key names.
+pub fn open_published(k: WorkingKey, start: &[u8], src: &[u8], dst: &mut [u8]) -> u8
+    ensures number { λ r. ⌜ r ≡ cbcRefusal (k .n) (length (now (start .entry))) (length (now (src .entry))) (length (now (dst .entry))) ⌝ }
+    ensures run { λ r. ⌜ now (dst .exit) ≡ outcome r (cbcOpen (U article (k .n) (k .words)) (16 * k .n) (now (start .entry)) (now (src .entry))) (now (dst .entry)) ⌝ }
+{
+    let n = k.n;
     let t = table_cipher::table();
     let s = table_cipher::substitution();
     let u = table_cipher::inverse();
     let ks = table_cipher::schedule(k, true);
-    open_run(&t, &s, &u, n, &ks, start, src, dst);
-    0
+    open_lent(&t, &s, &u, n, &ks, start, src, dst)
 }

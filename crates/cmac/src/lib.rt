@@ -11,7 +11,7 @@ ghost use Rattle.forms.specs.Refusals.{outcome};
 ghost use Rattle.forms.specs.Strings.{xorBytes};
 ghost use Rattle.labyrinth.specs.Cipher.{article};
 ghost use Rattle.labyrinth.specs.Keys.{E};
-ghost use Rattle.labyrinth.specs.Lent.{Gives};
+ghost use Rattle.labyrinth.specs.Lent.{lent, Gives};
 ghost use Rattle.modes.specs.Cmac.{blockCount, mac};
 ghost use Rattle.modes.specs.Cmac.{tag as madeTag};
 ghost use Rattle.modes.specs.Refusals.{cmacRefusal};
@@ -76,47 +76,76 @@ fn last_of(t: &[u64; 256], s: &[u8; 256], u: &[u8; 256], ks: &[u64; 80], message
     c
 }
 
-// The last block of a message's chain under a working key.
-fn chained(k: WorkingKey, message: &[u8]) -> [u8; 16]
-    requires { ⌜ k .n ≡ 1 ⌝ }
-    ensures { λ r. ⌜ r ≡ mac (E article (k .n) (k .words)) (now (message .entry)) ⌝ }
+// Makes a message's tag, as long as dst, with the tables lent.
+fn make_lent(
+    t: &[u64; 256],
+    s: &[u8; 256],
+    u: &[u8; 256],
+    n: usize,
+    ks: &[u64; 80],
+    message: &[u8],
+    dst: &mut [u8],
+) -> u8
+    ensures number { λ r. ⌜ r ≡ cmacRefusal n (length (now (dst .entry))) ⌝ }
+    ensures tag { λ r. ⌜ now (dst .exit) ≡ outcome r (madeTag (lent n (now (t .entry)) (now (s .entry)) (now (u .entry)) (now (ks .entry))) (length (now (dst .entry))) (now (message .entry))) (now (dst .entry)) ⌝ }
 {
-    let t = table_cipher::table();
-    let s = table_cipher::substitution();
-    let u = table_cipher::inverse();
-    let ks = table_cipher::schedule(k, false);
-    last_of(&t, &s, &u, &ks, message)
-}
-
-// Makes a message's tag, as long as dst.
-pub fn make(k: WorkingKey, message: &[u8], dst: &mut [u8]) -> u8
-    ensures number { λ r. ⌜ r ≡ cmacRefusal (k .n) (length (now (dst .entry))) ⌝ }
-    ensures tag { λ r. ⌜ now (dst .exit) ≡ outcome r (madeTag (E article (k .n) (k .words)) (length (now (dst .entry))) (now (message .entry))) (now (dst .entry)) ⌝ }
-{
-    let number = run_refusals::cmac_refusal(k.n, dst.len());
+    let number = run_refusals::cmac_refusal(n, dst.len());
     if number != 0 {
         return number;
     }
-    let last = chained(k, message);
+    let last = last_of(t, s, u, ks, message);
     strings::copy_into(dst, &last);
     0
 }
 
-// Verifies a given tag: every byte of it is compared.
-pub fn verify(k: WorkingKey, message: &[u8], tag: &[u8]) -> Verified
-    ensures { λ r. ⌜ r ≡ verification (E article (k .n) (k .words)) (now (message .entry)) (now (tag .entry)) (cmacRefusal (k .n) (length (now (tag .entry)))) ⌝ }
+// Verifies a given tag with the tables lent: every byte of it is compared.
+fn verify_lent(
+    t: &[u64; 256],
+    s: &[u8; 256],
+    u: &[u8; 256],
+    n: usize,
+    ks: &[u64; 80],
+    message: &[u8],
+    tag: &[u8],
+) -> Verified
+    ensures { λ r. ⌜ r ≡ verification (lent n (now (t .entry)) (now (s .entry)) (now (u .entry)) (now (ks .entry))) (now (message .entry)) (now (tag .entry)) (cmacRefusal n (length (now (tag .entry)))) ⌝ }
 {
     let size = tag.len();
-    let number = run_refusals::cmac_refusal(k.n, size);
+    let number = run_refusals::cmac_refusal(n, size);
     if number != 0 {
         return Verified {
             number: number,
             yes: false,
         };
     }
-    let made = chained(k, message);
+    let made = last_of(t, s, u, ks, message);
     Verified {
         number: 0,
         yes: strings::equal(&made[..size], tag),
     }
+}
+
+// Makes a message's tag with the published set, whichever set the key names.
+pub fn make_published(k: WorkingKey, message: &[u8], dst: &mut [u8]) -> u8
+    ensures number { λ r. ⌜ r ≡ cmacRefusal (k .n) (length (now (dst .entry))) ⌝ }
+    ensures tag { λ r. ⌜ now (dst .exit) ≡ outcome r (madeTag (E article (k .n) (k .words)) (length (now (dst .entry))) (now (message .entry))) (now (dst .entry)) ⌝ }
+{
+    let n = k.n;
+    let t = table_cipher::table();
+    let s = table_cipher::substitution();
+    let u = table_cipher::inverse();
+    let ks = table_cipher::schedule(k, false);
+    make_lent(&t, &s, &u, n, &ks, message, dst)
+}
+
+// Verifies a given tag with the published set, whichever set the key names.
+pub fn verify_published(k: WorkingKey, message: &[u8], tag: &[u8]) -> Verified
+    ensures { λ r. ⌜ r ≡ verification (E article (k .n) (k .words)) (now (message .entry)) (now (tag .entry)) (cmacRefusal (k .n) (length (now (tag .entry)))) ⌝ }
+{
+    let n = k.n;
+    let t = table_cipher::table();
+    let s = table_cipher::substitution();
+    let u = table_cipher::inverse();
+    let ks = table_cipher::schedule(k, false);
+    verify_lent(&t, &s, &u, n, &ks, message, tag)
 }

@@ -12,7 +12,7 @@ ghost use Rattle.forms.specs.Strings.{xorBytes, number, string};
 ghost use Rattle.labyrinth.specs.Cipher.{article};
 ghost use Rattle.labyrinth.specs.Keys.{E};
 ghost use Rattle.labyrinth.specs.Working.{Size};
-ghost use Rattle.labyrinth.specs.Lent.{Lendable, Gives};
+ghost use Rattle.labyrinth.specs.Lent.{Lendable, lent, Gives};
 ghost use Rattle.modes.specs.Ctr.{counter, ctr};
 ghost use Rattle.modes.specs.Refusals.{ctrRefusal};
 ghost use Rattle.ctr.specs.Counting.{counterBlocks};
@@ -145,20 +145,39 @@ fn ctr_run(
     from_counter(t, s, u, n, ks, &mut counter[..size], src, dst);
 }
 
-// Seals or opens src to dst, from block q of the run that start begins.
-pub fn run(k: WorkingKey, start: &[u8], q: u64, src: &[u8], dst: &mut [u8]) -> u8
-    ensures number { λ r. ⌜ r ≡ ctrRefusal (k .n) (length (now (start .entry))) (length (now (src .entry))) (length (now (dst .entry))) ⌝ }
-    ensures run { λ r. ⌜ now (dst .exit) ≡ outcome r (ctr (E article (k .n) (k .words)) (16 * k .n) (now (start .entry)) q (now (src .entry))) (now (dst .entry)) ⌝ }
+// Seals or opens src to dst, from block q of the run that start begins, with the tables lent.
+fn run_lent(
+    t: &[u64; 256],
+    s: &[u8; 256],
+    u: &[u8; 256],
+    n: usize,
+    ks: &[u64; 80],
+    start: &[u8],
+    q: u64,
+    src: &[u8],
+    dst: &mut [u8],
+) -> u8
+    requires { ⌜ Lendable (now t) ⌝ }
+    ensures number { λ r. ⌜ r ≡ ctrRefusal n (length (now (start .entry))) (length (now (src .entry))) (length (now (dst .entry))) ⌝ }
+    ensures run { λ r. ⌜ now (dst .exit) ≡ outcome r (ctr (lent n (now (t .entry)) (now (s .entry)) (now (u .entry)) (now (ks .entry))) (16 * n) (now (start .entry)) q (now (src .entry))) (now (dst .entry)) ⌝ }
 {
-    let n = k.n;
     let number = run_refusals::ctr_refusal(n, start.len(), src.len(), dst.len());
     if number != 0 {
         return number;
     }
+    ctr_run(t, s, u, n, ks, start, q, src, dst);
+    0
+}
+
+// Seals or opens src to dst, from block q of the run that start begins, with the published set, whichever set the key names.
+pub fn run_published(k: WorkingKey, start: &[u8], q: u64, src: &[u8], dst: &mut [u8]) -> u8
+    ensures number { λ r. ⌜ r ≡ ctrRefusal (k .n) (length (now (start .entry))) (length (now (src .entry))) (length (now (dst .entry))) ⌝ }
+    ensures run { λ r. ⌜ now (dst .exit) ≡ outcome r (ctr (E article (k .n) (k .words)) (16 * k .n) (now (start .entry)) q (now (src .entry))) (now (dst .entry)) ⌝ }
+{
+    let n = k.n;
     let t = table_cipher::table();
     let s = table_cipher::substitution();
     let u = table_cipher::inverse();
     let ks = table_cipher::schedule(k, false);
-    ctr_run(&t, &s, &u, n, &ks, start, q, src, dst);
-    0
+    run_lent(&t, &s, &u, n, &ks, start, q, src, dst)
 }

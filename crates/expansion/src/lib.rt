@@ -14,7 +14,7 @@ ghost use Rattle.field.specs.Merged.{lookup};
 ghost use Rattle.labyrinth.specs.Cipher.{article};
 ghost use Rattle.labyrinth.specs.Keys.{half, register, delta, expandedWords};
 ghost use Rattle.labyrinth.specs.Refusals.{expandRefusal, expansion, padded};
-ghost use Rattle.labyrinth.specs.Working.{Size, fourWords};
+ghost use Rattle.labyrinth.specs.Working.{Size, Taken, fourWords};
 
 // Where word i of half-block k_j stands.
 fn place(n: usize, j: usize, i: usize) -> usize
@@ -134,30 +134,43 @@ fn grow(t: &[u64; 256], n: usize, l: usize, key: [u64; 32]) -> [u64; 32]
 
 // A refused key.
 fn refused(number: u8) -> Expanded
-    ensures { λ r. ⌜ r ≡ record { number = number; key = record { n = 0; words = padded [] } } ⌝ }
+    ensures { λ r. ⌜ r ≡ record { number = number; key = record { n = 0; set = 0; words = padded [] } } ⌝ }
 {
     Expanded {
         number: number,
         key: WorkingKey {
             n: 0,
+            set: 0,
             words: [0; 32],
         },
     }
 }
 
-// Expands a key of l half-blocks to a working key of size n: 1 if n isn't 1, 2 or 4, 2 if l isn't 2, 3 or 4, 3 if the key
-// isn't 8nl bytes.
-pub fn expand(n: usize, l: usize, key: &[u8]) -> Expanded
-    ensures { λ r. ⌜ r ≡ expansion (article .SM) n l (now (key .entry)) (expandRefusal n l (length (now (key .entry)))) ⌝ }
+// Expands a key that is taken, with the merged table lent.
+fn expand_by(t: &[u64; 256], n: usize, l: usize, set: usize, key: &[u8]) -> Expanded
+    requires { ⌜ Taken n l (length (now key)) ⌝ }
+    ensures { λ r. ⌜ r ≡ record { number = 0; key = record { n = n; set = set; words = padded (expandedWords (lookup (now (t .entry))) n l (now (key .entry))) } } ⌝ }
+{
+    let w = grow(t, n, l, load_key(n * l, key));
+    Expanded {
+        number: 0,
+        key: WorkingKey {
+            n: n,
+            set: set,
+            words: w,
+        },
+    }
+}
+
+// Expands a key of l half-blocks to a working key of size n, for the published set: 1 if n isn't 1, 2 or 4, 2 if l isn't 2, 3 or 4, 3 if the
+// key isn't 8nl bytes.
+pub fn expand_published(n: usize, l: usize, key: &[u8]) -> Expanded
+    ensures { λ r. ⌜ r ≡ expansion (article .SM) 0 n l (now (key .entry)) (expandRefusal n l (length (now (key .entry)))) ⌝ }
 {
     let number = labyrinth::expand_refusal(n, l, key.len());
     if number != 0 {
         return refused(number);
     }
     let t = tables::merged_table();
-    let w = grow(&t, n, l, load_key(n * l, key));
-    Expanded {
-        number: 0,
-        key: WorkingKey { n: n, words: w },
-    }
+    expand_by(&t, n, l, 0, key)
 }

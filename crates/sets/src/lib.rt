@@ -171,17 +171,29 @@ pub fn load(store: Store, publisher: usize, i: usize, substitution: &[u8], row: 
     ensures { λ r. ⌜ r ≡ spec.load store publisher i (now (substitution .entry)) row ⌝ }
 {
     if 1 < publisher {
-        return Changed { number: 15, store: store };
+        return Changed {
+            number: 15,
+            store: store,
+        };
     }
     if 3 < i {
-        return Changed { number: 15, store: store };
+        return Changed {
+            number: 15,
+            store: store,
+        };
     }
     let number = set_refusal(substitution, row);
     if number != 0 {
-        return Changed { number: number, store: store };
+        return Changed {
+            number: number,
+            store: store,
+        };
     }
     if is_held(store, i) {
-        return Changed { number: 16, store: store };
+        return Changed {
+            number: 16,
+            store: store,
+        };
     }
     let s = copied(substitution);
     let mut r = store;
@@ -189,7 +201,10 @@ pub fn load(store: Store, publisher: usize, i: usize, substitution: &[u8], row: 
         substitution: s,
         row: row,
     };
-    Changed { number: 0, store: r }
+    Changed {
+        number: 0,
+        store: r,
+    }
 }
 
 // A publisher takes set i, and so drops the one that it had taken: 15 if there is no such publisher or set, or the set isn't loaded.
@@ -197,14 +212,23 @@ pub fn take(store: Store, publisher: usize, i: usize) -> Changed
     ensures { λ r. ⌜ r ≡ spec.take store publisher i ⌝ }
 {
     if 1 < publisher {
-        return Changed { number: 15, store: store };
+        return Changed {
+            number: 15,
+            store: store,
+        };
     }
     if !is_loaded(store, i) {
-        return Changed { number: 15, store: store };
+        return Changed {
+            number: 15,
+            store: store,
+        };
     }
     let mut r = store;
     r.taken[publisher] = i;
-    Changed { number: 0, store: r }
+    Changed {
+        number: 0,
+        store: r,
+    }
 }
 
 // ---- what a set's tables are made of

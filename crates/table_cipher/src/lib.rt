@@ -86,8 +86,8 @@ pub fn map_block(
     0
 }
 
-// One way or the other, with what is prepared for this block alone.
-fn by_table(k: WorkingKey, back: bool, src: &[u8], dst: &mut [u8]) -> u8
+// One way or the other by the published set, with what is prepared for this block alone.
+fn by_published(k: WorkingKey, back: bool, src: &[u8], dst: &mut [u8]) -> u8
     ensures number { λ r. ⌜ r ≡ blockRefusal (k .n) (length (now (src .entry))) (length (now (dst .entry))) ⌝ }
     ensures block { λ r. ⌜ now (dst .exit) ≡ outcome r (way article back (k .n) (k .words) (now (src .entry))) (now (dst .entry)) ⌝ }
 {
@@ -99,18 +99,18 @@ fn by_table(k: WorkingKey, back: bool, src: &[u8], dst: &mut [u8]) -> u8
     map_block(&t, &s, &u, n, &ks, src, dst)
 }
 
-// Enciphers a block by the merged table.
-pub fn encipher_by_table(k: WorkingKey, src: &[u8], dst: &mut [u8]) -> u8
+// Enciphers a block by the merged table, with the published set whichever set the key names.
+pub fn encipher_published(k: WorkingKey, src: &[u8], dst: &mut [u8]) -> u8
     ensures number { λ r. ⌜ r ≡ blockRefusal (k .n) (length (now (src .entry))) (length (now (dst .entry))) ⌝ }
     ensures block { λ r. ⌜ now (dst .exit) ≡ outcome r (E article (k .n) (k .words) (now (src .entry))) (now (dst .entry)) ⌝ }
 {
-    by_table(k, false, src, dst)
+    by_published(k, false, src, dst)
 }
 
-// Deciphers a block by the merged table.
-pub fn decipher_by_table(k: WorkingKey, src: &[u8], dst: &mut [u8]) -> u8
+// Deciphers a block by the merged table, with the published set whichever set the key names.
+pub fn decipher_published(k: WorkingKey, src: &[u8], dst: &mut [u8]) -> u8
     ensures number { λ r. ⌜ r ≡ blockRefusal (k .n) (length (now (src .entry))) (length (now (dst .entry))) ⌝ }
     ensures block { λ r. ⌜ now (dst .exit) ≡ outcome r (U article (k .n) (k .words) (now (src .entry))) (now (dst .entry)) ⌝ }
 {
-    by_table(k, true, src, dst)
+    by_published(k, true, src, dst)
 }

@@ -2,8 +2,8 @@
 -- Assumes nothing.
 use borrow.Author.Needs.{needs}
 use Rattle.labyrinth.proofs.Lent.{article-block-by-one}
-use Rattle.table_cipher.proofs.by_table.Statement.{statement}
-use Rattle.table_cipher.proofs.by_table.Tie as tie
+use Rattle.table_cipher.proofs.by_published.Statement.{statement}
+use Rattle.table_cipher.proofs.by_published.Tie as tie
 
 table-requires : tie.Need-table-requires
 table-requires c κs = search needs
@@ -40,8 +40,8 @@ returns c =
     })
     (a .src .now) (a .dst .now) (mapped .0) (mapped .1)
 
-pub by-table-spec : {M : Type 1} → statement M
-by-table-spec =
+pub by-published-spec : {M : Type 1} → statement M
+by-published-spec =
     tie.close
     (tie.spec
     table-requires
