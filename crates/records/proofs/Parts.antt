@@ -12,7 +12,7 @@ use lib.ListN.{length, getD, take, drop, replicate, length-append, length-drop, 
 use lib.Seq.{take-nil, drop-nil, getD-drop, take-all, take-at, drop-drop}
 use Rattle.forms.specs.Lists.{tabulate, when, wordsFrom}
 use Rattle.forms.specs.Words.{byte, bytes}
-use Rattle.forms.proofs.Lists.{length-tabulate, tabulate-cong, tabulate-add}
+use Rattle.forms.proofs.Lists.{length-tabulate, tabulate-cong, tabulated, tabulate-add}
 use Rattle.forms.proofs.Buffers.{put, put-put, put-none}
 use Rattle.forms.proofs.Parts.{part-to-end}
 use Rattle.sets.specs.declared.Set.{Set}
@@ -37,6 +37,11 @@ from-zeros n at b = over-zeros n (drop at b) ∙ tabulate-cong n _ _ (λ i h. ge
 -- what stands from a place on, lent to the end
 pub to-end : (xs : List ℕ) (at : ℕ) → take (length xs - at) (drop at xs) ≡ drop at xs
 to-end xs at = take-all (length xs - at) (drop at xs) (omega (arith, length-drop at xs))
+
+-- a string read whole
+pub read-whole : (b : List ℕ) (n : ℕ) → length b ≡ n → wordsFrom n 0 b ≡ b
+unfolding wordsFrom
+read-whole b n h = sym (tabulated n (λ i. getD b (0 + i) 0) 0 b h (λ i l. ap (λ (k : ℕ). getD b k 0) (sym (zero-add i))))
 
 -- nothing stands from a place on
 pub nothing-laid : (b d : List ℕ) (at : ℕ) → length b ≤ at → d ≡ take (length d) (drop at b) ++ drop (length (drop at b)) d
@@ -87,6 +92,9 @@ not-written d x size h = rw (ne-eqb (length d) size h)
 
 pub written : (d x : List ℕ) (size : ℕ) {e : List ℕ} → length d ≡ size → e ≡ x → e ≡ when (eqb (length d) size) x d
 written d x size h p = rw (eq-eqb (length d) size h) p
+
+pub as-written : (d x : List ℕ) (size : ℕ) {e : List ℕ} → length d ≡ size → e ≡ when (eqb (length d) size) x d → e ≡ x
+as-written d x size h p = p ∙ rw (eq-eqb (length d) size h) refl
 
 -- n and the set, and the words behind them
 pub key-written : (k : WorkingKey) (d : List ℕ) {d₁ d₂ d₃ : List ℕ} → length d ≡ 272 → d₁ ≡ put 0 8 (tabulate 8 (byte (k .n))) d

@@ -3,6 +3,7 @@ use labyrinth::WorkingKey;
 use sets::Set;
 use sets::Store;
 ghost use mathlib.Core.Path.{_≡_};
+ghost use mathlib.Core.Bool.{_&&_};
 ghost use mathlib.Core.List.{_++_};
 ghost use Prim.Native.Nat.{_+_, _*_, _≤_};
 ghost use lib.Dec.{eqb};
@@ -11,6 +12,16 @@ ghost use Rattle.forms.specs.Lists.{tabulate, when, wordsFrom};
 ghost use Rattle.forms.specs.Words.{byte, bytes};
 ghost use Rattle.buffers.specs.Words.{wordAt};
 ghost use Rattle.records.specs.Records.{keyIn, keyBytes, setAt, storeIn, setBytes, storeBytes};
+
+// Whether a store and a working key have their records' lengths.
+pub fn fit(store: usize, working: usize) -> bool
+    ensures { λ r. ⌜ r ≡ (eqb store 1072 && eqb working 272) ⌝ }
+{
+    if store != 1072 {
+        return false;
+    }
+    working == 272
+}
 
 // ---- numbers
 
@@ -103,8 +114,8 @@ fn substitution_at(b: &[u8], at: usize) -> [u8; 256]
     r
 }
 
-// A row that stands at a place.
-fn row_at(b: &[u8], at: usize) -> [u8; 8]
+// A row that stands at a place; a coefficient that has no room there is 0.
+pub fn row_at(b: &[u8], at: usize) -> [u8; 8]
     ensures { λ r. ⌜ r ≡ wordsFrom 8 at (now (b .entry)) ⌝ }
 {
     let mut r = [0u8; 8];
