@@ -3,10 +3,11 @@
 ghost use mathlib.Core.Path.{_≡_};
 ghost use lib.ListN.{length};
 ghost use Rattle.forms.specs.Refusals.{outcome};
-ghost use Rattle.sets.specs.Sets.{freshStore, loadRefusal, takeRefusal};
+ghost use Rattle.labyrinth.specs.Refusals.{expandRefusal, underLength, expansion};
+ghost use Rattle.sets.specs.Sets.{loaded, partsIn, freshStore, loadRefusal, takeRefusal};
 ghost use Rattle.sets.specs.Sets as spec;
-ghost use Rattle.records.specs.Records.{storeIn, storeBytes};
-ghost use Rattle.records.specs.Numbers.{storeNumber, rowNumber};
+ghost use Rattle.records.specs.Records.{keyBytes, storeIn, storeBytes};
+ghost use Rattle.records.specs.Numbers.{storeNumber, recordsNumber, rowNumber};
 
 // Writes a fresh store.
 #[no_mangle]
@@ -69,5 +70,30 @@ pub extern "C" fn labyrinth_store_take(store: &mut [u8], publisher: usize, set: 
     }
     let after = changed.store;
     records::put_store(after, store);
+    0
+}
+
+// Expands a key for a set, which the working key then names.
+#[no_mangle]
+pub extern "C" fn labyrinth_expand(
+    store: &[u8],
+    n: usize,
+    l: usize,
+    set: usize,
+    key: &[u8],
+    working: &mut [u8],
+) -> u8
+    ensures number { λ r. ⌜ r ≡ recordsNumber (length (now (store .entry))) (length (now (working .entry))) (underLength n l (loaded (storeIn (now (store .entry))) set) (expandRefusal n l (length (now (key .entry))))) ⌝ }
+    ensures key { λ r. ⌜ now (working .exit) ≡ outcome r (keyBytes (expansion (partsIn (storeIn (now (store .entry))) set .SM) set n l (now (key .entry)) r .key)) (now (working .entry)) ⌝ }
+{
+    if !records::fit(store.len(), working.len()) {
+        return 4;
+    }
+    let x = expansion::expand(records::store_of(store), n, l, set, key);
+    if x.number != 0 {
+        return x.number;
+    }
+    let k = x.key;
+    records::put_key(k, working);
     0
 }
