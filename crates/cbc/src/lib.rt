@@ -3,6 +3,7 @@
 // What the block map needs is prepared once for a run, and lent to every block. Each inner function is stated over the block map m that
 // it gives.
 use labyrinth::WorkingKey;
+use sets::Store;
 ghost use mathlib.Core.Path.{_≡_};
 ghost use mathlib.Core.List.{List};
 ghost use Prim.Native.Nat.{ℕ, _*_, _%_};
@@ -10,8 +11,10 @@ ghost use lib.ListN.{length};
 ghost use Rattle.forms.specs.Refusals.{outcome};
 ghost use Rattle.labyrinth.specs.Cipher.{article};
 ghost use Rattle.labyrinth.specs.Keys.{E, U};
+ghost use Rattle.labyrinth.specs.Refusals.{underKey};
 ghost use Rattle.labyrinth.specs.Working.{Size};
 ghost use Rattle.labyrinth.specs.Lent.{lent, Gives};
+ghost use Rattle.sets.specs.Sets.{loaded, partsIn};
 ghost use Rattle.modes.specs.Cbc.{cbcSeal, cbcOpen};
 ghost use Rattle.modes.specs.Refusals.{cbcRefusal};
 
@@ -48,6 +51,28 @@ pub fn seal_published(k: WorkingKey, start: &[u8], src: &[u8], dst: &mut [u8]) -
     let t = table_cipher::table();
     let s = table_cipher::substitution();
     let u = table_cipher::inverse();
+    let ks = table_cipher::schedule(k, false);
+    seal_lent(&t, &s, &u, n, &ks, start, src, dst)
+}
+
+// Seals src to dst, after the start block: 15 if the set that the key names isn't loaded, right after 1. Set 0 goes its own way, and reads no store.
+pub fn seal(store: Store, k: WorkingKey, start: &[u8], src: &[u8], dst: &mut [u8]) -> u8
+    ensures number { λ r. ⌜ r ≡ underKey (k .n) (loaded store (k .set)) (cbcRefusal (k .n) (length (now (start .entry))) (length (now (src .entry))) (length (now (dst .entry)))) ⌝ }
+    ensures run { λ r. ⌜ now (dst .exit) ≡ outcome r (cbcSeal (E (partsIn store (k .set)) (k .n) (k .words)) (16 * k .n) (now (start .entry)) (now (src .entry))) (now (dst .entry)) ⌝ }
+{
+    if k.set == 0 {
+        return seal_published(k, start, src, dst);
+    }
+    let n = k.n;
+    let number = labyrinth::under_key(n, sets::is_loaded(store, k.set), 0);
+    if number != 0 {
+        return number;
+    }
+    let v = sets::set_in(store, k.set);
+    let s = v.substitution;
+    let g = v.row;
+    let t = table_cipher::table_of(g, &s);
+    let u = table_cipher::inverse_of(&s);
     let ks = table_cipher::schedule(k, false);
     seal_lent(&t, &s, &u, n, &ks, start, src, dst)
 }
@@ -107,6 +132,28 @@ pub fn open_published(k: WorkingKey, start: &[u8], src: &[u8], dst: &mut [u8]) -
     let t = table_cipher::table();
     let s = table_cipher::substitution();
     let u = table_cipher::inverse();
+    let ks = table_cipher::schedule(k, true);
+    open_lent(&t, &s, &u, n, &ks, start, src, dst)
+}
+
+// Opens src to dst, after the start block: 15 if the set that the key names isn't loaded, right after 1. Set 0 goes its own way, and reads no store.
+pub fn open(store: Store, k: WorkingKey, start: &[u8], src: &[u8], dst: &mut [u8]) -> u8
+    ensures number { λ r. ⌜ r ≡ underKey (k .n) (loaded store (k .set)) (cbcRefusal (k .n) (length (now (start .entry))) (length (now (src .entry))) (length (now (dst .entry)))) ⌝ }
+    ensures run { λ r. ⌜ now (dst .exit) ≡ outcome r (cbcOpen (U (partsIn store (k .set)) (k .n) (k .words)) (16 * k .n) (now (start .entry)) (now (src .entry))) (now (dst .entry)) ⌝ }
+{
+    if k.set == 0 {
+        return open_published(k, start, src, dst);
+    }
+    let n = k.n;
+    let number = labyrinth::under_key(n, sets::is_loaded(store, k.set), 0);
+    if number != 0 {
+        return number;
+    }
+    let v = sets::set_in(store, k.set);
+    let s = v.substitution;
+    let g = v.row;
+    let t = table_cipher::table_of(g, &s);
+    let u = table_cipher::inverse_of(&s);
     let ks = table_cipher::schedule(k, true);
     open_lent(&t, &s, &u, n, &ks, start, src, dst)
 }

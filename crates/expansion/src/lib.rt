@@ -4,6 +4,7 @@
 // The words grow in one array of 32 that starts as zeros, so the unused words are zero at the end.
 use labyrinth::Expanded;
 use labyrinth::WorkingKey;
+use sets::Store;
 ghost use mathlib.Core.Path.{_≡_};
 ghost use mathlib.Core.List.{List, [], _++_};
 ghost use Prim.Native.Nat.{ℕ, _+_, _-_, _*_, _≤_, _<_};
@@ -13,8 +14,9 @@ ghost use Rattle.forms.specs.Words.{words};
 ghost use Rattle.field.specs.Merged.{lookup};
 ghost use Rattle.labyrinth.specs.Cipher.{article};
 ghost use Rattle.labyrinth.specs.Keys.{half, register, delta, expandedWords};
-ghost use Rattle.labyrinth.specs.Refusals.{expandRefusal, expansion, padded};
+ghost use Rattle.labyrinth.specs.Refusals.{expandRefusal, underLength, expansion, padded};
 ghost use Rattle.labyrinth.specs.Working.{Size, Taken, fourWords};
+ghost use Rattle.sets.specs.Sets.{loaded, partsIn};
 
 // Where word i of half-block k_j stands.
 fn place(n: usize, j: usize, i: usize) -> usize
@@ -173,4 +175,24 @@ pub fn expand_published(n: usize, l: usize, key: &[u8]) -> Expanded
     }
     let t = tables::merged_table();
     expand_by(&t, n, l, 0, key)
+}
+
+// Expands a key for a set of a store, which the working key then names: 15 if it isn't loaded, right after 2. Set 0 goes its own way, and
+// reads no store.
+pub fn expand(store: Store, n: usize, l: usize, set: usize, key: &[u8]) -> Expanded
+    ensures { λ r. ⌜ r ≡ expansion (partsIn store set .SM) set n l (now (key .entry)) (underLength n l (loaded store set) (expandRefusal n l (length (now (key .entry))))) ⌝ }
+{
+    if set == 0 {
+        return expand_published(n, l, key);
+    }
+    let own = labyrinth::expand_refusal(n, l, key.len());
+    let number = labyrinth::under_length(n, l, sets::is_loaded(store, set), own);
+    if number != 0 {
+        return refused(number);
+    }
+    let v = sets::set_in(store, set);
+    let s = v.substitution;
+    let g = v.row;
+    let t = rows::table_of(g, &s);
+    expand_by(&t, n, l, set, key)
 }

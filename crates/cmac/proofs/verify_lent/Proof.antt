@@ -42,7 +42,7 @@ array-share-prefix-made : tie.Need-array-share-prefix-made
 array-share-prefix-made c = inside c
 
 slice-aggregate-equal : tie.Need-slice-aggregate-equal
-slice-aggregate-equal c = sym (length-take-le _ (c .before .last-of . result) (inside (c .before)))
+slice-aggregate-equal c = sym (length-take-le _ (c .before .last-of .result) (inside (c .before)))
 
 equal-requires : tie.Need-equal-requires
 equal-requires c κs = search needs
@@ -50,7 +50,7 @@ equal-requires c κs = search needs
 returns-2 : tie.Need-returns-2
 returns-2 c =
     let e = c .before .before .before in
-    compared-yes _ _ _ _ (e .before .cmac-refusal .ensures) (e .if1 .left) (c .before .before .last-of . ensures) (c .equal .ensures)
+    compared-yes _ _ _ _ (e .before .cmac-refusal .ensures) (e .if1 .left) (last (c .before .before)) (c .equal .ensures)
 
 pub verify-lent-spec : {M : Type 1} → statement M
 verify-lent-spec =

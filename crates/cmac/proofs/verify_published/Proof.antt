@@ -2,13 +2,11 @@
 -- Assumes nothing.
 use mathlib.Core.Path.{refl, _∙_}
 use mathlib.Core.Bool.{false}
-use lib.ListN.{length}
 use borrow.Author.Needs.{needs}
 use Rattle.labyrinth.specs.Lent.{ArticlePrepared}
 use Rattle.labyrinth.proofs.Lent.{article-by-one}
-use Rattle.modes.specs.Refusals.{cmacRefusal}
 use Rattle.modes.proofs.Refusals.{cmac-taken}
-use Rattle.cmac.proofs.Tags.{verification-cong}
+use Rattle.cmac.proofs.Tags.{verified-under}
 use Rattle.cmac.proofs.verify_published.Statement.{statement}
 use Rattle.cmac.proofs.verify_published.Tie as tie
 
@@ -40,7 +38,7 @@ returns : tie.Need-returns
 returns c =
     let p = c .before .before .before .before .before in
     let a = p .before .before .before .before .before .before .args in
-    c .verify-lent .ensures ∙ verification-cong _ _ (a .message .now) (a .tag .now) (cmacRefusal (a .k .n) (length (a .tag .now))) (λ z. article-by-one (made p) (cmac-taken _ _ refl z .size))
+    c .verify-lent .ensures ∙ verified-under _ _ (a .message .now) (a .tag .now) refl (λ z. article-by-one (made p) (cmac-taken _ _ refl z .size))
 
 pub verify-published-spec : {M : Type 1} → statement M
 verify-published-spec =
