@@ -106,6 +106,7 @@ long verdicts(const struct op *ops, size_t count);
 extern volatile uint8_t sink;
 
 void paint(void);
+size_t stack_by(void (*act)(void));
 size_t stack(const struct op *ops, int large, size_t *each);
 
 /* ---- memory.c */
@@ -114,6 +115,11 @@ enum { PLACE_END, PLACE_START, PLACE_ANY };
 
 void lend(void);
 int memory(const struct op *ops, enum kind kind, uint64_t seed, long cases, int place);
+
+/* ---- stores.c */
+
+long records(uint64_t seed, int large, size_t *most);
+int try_record_stubs(uint64_t seed);
 
 /* ---- stubs.c */
 

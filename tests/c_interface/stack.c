@@ -12,6 +12,7 @@ static ucontext_t here, there;
 static const struct op *there_op;
 static const struct call *there_call;
 static mix_fn *there_mix;
+static void (*there_act)(void);
 static uintptr_t top;
 
 void paint(void)
@@ -90,7 +91,9 @@ volatile uint8_t sink;
 
 static void on_stack(void)
 {
-    if (there_mix)
+    if (there_act)
+        there_act();
+    else if (there_mix)
         sink = (uint8_t)there_mix(1);
     else
         sink = run(there_op, there_call);
@@ -107,19 +110,10 @@ static void over_there(int paint)
     if (swapcontext(&here, &there) != 0) stop("swapcontext");
 }
 
-static size_t stack_of(const struct op *op, const struct call *c, mix_fn *mix)
+/* By two paints, the lowest byte that lost its own, from top. */
+static size_t used_from_top(void)
 {
-    static const struct op tops[KINDS] = {{"", BLOCK, 0, {.block = top_block}}, {"", CBC, 0, {.cbc = top_cbc}}, {"", CTR, 0, {.ctr = top_ctr}},
-                                          {"", CMAC, 0, {.cmac = top_cmac}}, {"", VERIFY, 0, {.verify = top_verify}}, {"", ROW, 0, {.row = top_row}},
-                                          {"", PRODUCT, 0, {.product = top_product}}, {"", INVERSE, 0, {.inverse = top_inverse}},
-                                          {"", JUDGE, 0, {.judge = top_judge}}};
     size_t used = 0;
-    there_call = c;
-    there_op = op ? &tops[op->kind] : NULL;
-    there_mix = mix ? top_mix : NULL;
-    over_there(0);
-    there_op = op;
-    there_mix = mix;
     for (int paint = 0x5A; paint <= 0xA5; paint += 0xA5 - 0x5A) {
         over_there(paint);
         uint8_t *lowest = painted;
@@ -128,6 +122,34 @@ static size_t stack_of(const struct op *op, const struct call *c, mix_fn *mix)
         if (top - (uintptr_t)lowest > used) used = top - (uintptr_t)lowest;
     }
     return used;
+}
+
+static void top_act(void) { NOTE_TOP(); }
+
+/* What act uses, its own frame and that of what it calls by counted too. */
+size_t stack_by(void (*act)(void))
+{
+    there_act = top_act;
+    over_there(0);
+    there_act = act;
+    size_t used = used_from_top();
+    there_act = NULL;
+    return used;
+}
+
+static size_t stack_of(const struct op *op, const struct call *c, mix_fn *mix)
+{
+    static const struct op tops[KINDS] = {{"", BLOCK, 0, {.block = top_block}}, {"", CBC, 0, {.cbc = top_cbc}}, {"", CTR, 0, {.ctr = top_ctr}},
+                                          {"", CMAC, 0, {.cmac = top_cmac}}, {"", VERIFY, 0, {.verify = top_verify}}, {"", ROW, 0, {.row = top_row}},
+                                          {"", PRODUCT, 0, {.product = top_product}}, {"", INVERSE, 0, {.inverse = top_inverse}},
+                                          {"", JUDGE, 0, {.judge = top_judge}}};
+    there_call = c;
+    there_op = op ? &tops[op->kind] : NULL;
+    there_mix = mix ? top_mix : NULL;
+    over_there(0);
+    there_op = op;
+    there_mix = mix;
+    return used_from_top();
 }
 
 /* What a call used; more than the header says is wrong. */
