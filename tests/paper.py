@@ -20,6 +20,7 @@ ARCHIVE = os.path.join(ROOT, "target", "dist", "liblabyrinth.a")
 PROGRAM = os.path.join(ROOT, "target", "bin", "tape_program")
 HEADER = os.path.join(ROOT, "include", "labyrinth.h")
 sys.path[:0] = [os.path.join(HERE, "archivists"), HERE]
+import archivists_sets
 import labyrinth as lab
 import make_paper_values
 import modes
@@ -600,7 +601,7 @@ def card_tables(text):
     n, l, key, start, other = make_paper_values.card_run()
     plain = make_paper_values.TEXT[: len(other)].encode("ascii")
     opened = lambda: modes.ctr_crypt(lab.Labyrinth(n, key), start, 0, sealed)
-    with make_paper_values.with_tables(row, substitution):
+    with archivists_sets.with_set(substitution, row):
         same("theirs, opened with these tables", opened(), plain)
         same("mixed 1", lab.word_to_bytes(lab.cmbn_poly(1)), [*row])
         eight = 0x0123456789ABCDEF
