@@ -331,6 +331,9 @@ def card():
     yield from (f"sealed   {digits(sealed[at : at + 16])}" for at in range(0, len(sealed), 16))
 
 
+CARD_TAG_KEY, CARD_TAG_LENGTH = bytes_of("card tag key", 24), 12
+
+
 # ---- tables of an archive's own
 
 def own_tables():
@@ -342,11 +345,12 @@ def own_tables():
 
 
 def card_tables():
-    """What tables of an archive's own add to the card, and the page sealed with them."""
+    """What tables of an archive's own add to the card, the page sealed with them, and its tag made with them."""
     row, substitution = own_tables()
     with archivists_sets.with_set(substitution, row):
         sealed = card_run()[-1]
-    for name, data in (("row", row), ("subst", substitution), ("sealed", sealed)):
+        tag = made_tag(CARD_TAG_KEY, sealed, CARD_TAG_LENGTH)
+    for name, data in (("row", row), ("subst", substitution), ("sealed", sealed), ("tag", tag)):
         yield from (f"{name:<8} {digits(data[at : at + 16])}" for at in range(0, len(data), 16))
 
 
@@ -448,10 +452,9 @@ def cmac_vectors():
 
 def card_tag():
     """What the card's tag adds to the card."""
-    l, length = 3, 12
-    key = bytes_of("card tag key", 8 * l)
-    yield from (f"tag        {digits(made_tag(key, card_run()[-1], length))}", f"tag-length {length}")
-    yield from (f"tag-l      {l}", f"tag-key    {digits(key)}", "tagged     the sealed page")
+    tag = made_tag(CARD_TAG_KEY, card_run()[-1], CARD_TAG_LENGTH)
+    yield from (f"tag        {digits(tag)}", f"tag-length {CARD_TAG_LENGTH}")
+    yield from (f"tag-l      {len(CARD_TAG_KEY) // 8}", f"tag-key    {digits(CARD_TAG_KEY)}", "tagged     the sealed page")
 
 
 # ---- the tape
