@@ -1,18 +1,15 @@
--- The numbers of lent records in plain terms; and what a function that takes a store and a working key comes to, whatever its operation.
+-- The numbers of lent records, in plain terms and as the code makes the checks.
 -- Assumes nothing.
-use mathlib.Core.Path.{_≡_, refl, sym, ap, ap₂, _∙_}
+use mathlib.Core.Path.{_≡_, sym}
 use mathlib.Core.Bool.{Bool, true, false, not, _&&_}
 use mathlib.Core.List.{List}
 use Prim.Native.Nat.{ℕ}
 use borrow.Author.Tests.{eq-eqb, ne-eqb, not-true, not-false}
 use lib.Dec.{eqb}
 use lib.ListN.{length}
-use Rattle.forms.specs.Refusals.{Unless, outcome}
+use Rattle.forms.specs.Refusals.{Unless}
 use Rattle.forms.proofs.Booleans.{eqb-iff, and-iff}
 use Rattle.forms.proofs.Refusals.{unless-plain}
-use Rattle.labyrinth.specs.declared.WorkingKey.{WorkingKey}
-use Rattle.sets.specs.declared.Store.{Store}
-use Rattle.records.specs.Records.{keyIn, storeIn}
 use Rattle.records.specs.Numbers.{storeNumber, recordsNumber, rowNumber}
 
 -- ---- in plain terms: 4 unless each has its length, then the further checks
@@ -62,20 +59,3 @@ module _ (store working : List ℕ) {t : Bool} (e : t ≡ (eqb (length store) 10
   pub records-passed : (further : ℕ) → not t ≡ false → further ≡ recordsNumber (length store) (length working) further
   unfolding recordsNumber
   records-passed further h = rw (sym e, not-false t h)
-
-  -- an operation that answers a number and fills a buffer
-  module _ (own : Store → WorkingKey → ℕ) (result : Store → WorkingKey → List ℕ) (before : List ℕ) where
-    -- what is promised
-    abbrev pub Done : ℕ → List ℕ → Type 0
-    Done r after =
-        (r ≡ recordsNumber (length store) (length working) (own (storeIn store) (keyIn working))) × (after ≡ outcome r (result (storeIn store) (keyIn working)) before)
-
-    pub lent-refused : not t ≡ true → Done 4 before
-    lent-refused h = (records-refused (own (storeIn store) (keyIn working)) h, refl)
-
-    pub lent-passed : not t ≡ false → {s : Store} {k : WorkingKey} → s ≡ storeIn store → k ≡ keyIn working → {r : ℕ} {after : List ℕ}
-        → (r ≡ own s k) × (after ≡ outcome r (result s k) before) → Done r after
-    lent-passed h p q {r} d = (
-      d .0 ∙ ap₂ own p q ∙ records-passed (own (storeIn store) (keyIn working)) h,
-      d .1 ∙ ap₂ (λ (s : Store) (k : WorkingKey). outcome r (result s k) before) p q,
-    )
