@@ -44,7 +44,7 @@
 #include <stdint.h>
 
 /* The library's version is 0.k.0, the landing being the kth in CHANGELOG.md from the first release, 0.1.0, on. */
-#define LABYRINTH_VERSION "0.12.0"
+#define LABYRINTH_VERSION "0.13.0"
 
 /* No call uses more bytes of the stack. Measured on a painted stack were 29640, of a long run, the return address counted, what the caller
  * pushes not (x86_64 Linux, Debian 12, gcc 12.2, glibc 2.36, the archive as rattle-kit-5b makes it); the rest is room for a memcpy that uses

@@ -1,7 +1,8 @@
 #!/usr/bin/env python3
 """Tries the command labyrinth (target/rust/release/labyrinth): the archivists' CBC, CTR and CMAC vectors through files and standard streams,
-the page of its own help, every exit status and number, and that no run leaves a half-written OUT; then shows that one altered byte is
-noticed. Expected numbers are those of documents 01 and 02 (tests/papers.py), expected bytes and tags the archivists'."""
+pages and tags with three other sets of tables, the page of its own help, every exit status and number, and that no run leaves a half-written
+OUT; then shows that one altered byte is noticed. Expected numbers are those of documents 01 and 02 (tests/papers.py), expected bytes and tags the
+archivists'."""
 import json
 import os
 import pty
@@ -19,6 +20,7 @@ sys.dont_write_bytecode = True
 HERE = os.path.dirname(os.path.abspath(__file__))
 ROOT = os.path.dirname(HERE)
 sys.path[:0] = [os.path.join(HERE, "archivists"), HERE]
+import archivists_sets
 import labyrinth
 import modes
 import papers
@@ -29,7 +31,7 @@ START = "ff" * 16
 MIB = 1 << 20
 OLD = b"what OUT held before"
 NOBODY = 65534
-COUNT = 1764
+COUNT = 1965
 
 
 class Wrong(Exception):
@@ -130,15 +132,19 @@ class Place:
         self.count += 1
 
 
-def words(way="seal", mode="ctr", n=1, l=2, key="key", start=START, q=None, names=("page", "out")):
+def words(way="seal", mode="ctr", n=1, l=2, key="key", start=START, q=None, names=("page", "out"), tables=None):
     options = ["--mode", mode, "-n", str(n), "-l", str(l), "--key-file", key, "--start", start]
-    return [way, *options, *(["--offset", str(q)] if q is not None else []), *names]
+    return [way, *options, *(["--offset", str(q)] if q is not None else []), *with_tables(tables), *names]
 
 
-def tag_words(way="tag", l=2, key="key", value=None, names=("page",)):
+def tag_words(way="tag", l=2, key="key", value=None, names=("page",), tables=None):
     """The value is --length's for tag, --tag's for verify."""
     option = [] if value is None else ["--length" if way == "tag" else "--tag", str(value)]
-    return [way, "-l", str(l), "--key-file", key, *option, *names]
+    return [way, "-l", str(l), "--key-file", key, *option, *with_tables(tables), *names]
+
+
+def with_tables(name):
+    return [] if name is None else ["--set", name]
 
 
 def papers_number(place, words):
@@ -146,6 +152,11 @@ def papers_number(place, words):
     way, names = words[0], 1 if words[0] in ("tag", "verify") else 2
     said = dict(zip(words[1:-names:2], words[2:-names:2]))
     l, key = int(said["-l"]), len(place.read(said["--key-file"])) // 2
+    if "--set" in said:
+        data = bytes.fromhex(place.read(said["--set"]).decode())
+        number = papers.Store.fresh().load(0, 1, data[:256], data[256:])
+        if number:
+            return number
     if names == 1:
         return papers.through_c("cmac", 1, l, key, 0, 0, int(said.get("--length", 16)) if way == "tag" else len(said["--tag"]) // 2)
     source = len(place.read(words[-2]))
@@ -399,6 +410,105 @@ def help_page(place):
         place.fails("help to a full disk", 3, "standard output", ["--help"], out="-", stdout=full)
 
 
+def set_cases():
+    """For each other set, at sizes in turn: what is sealed by the archivists' program with its tables exchanged."""
+    for i, tables in enumerate(archivists_sets.OTHERS):
+        for j, (n, l) in enumerate(papers.SIZES):
+            key = bytes((7 * k + i) % 256 for k in range(8 * n * l))
+            start, plain = bytes((k * k + j) % 256 for k in range(16 * n)), bytes(k * 11 % 256 for k in range(48 * n))
+            with archivists_sets.with_set(*tables):
+                cipher = labyrinth.Labyrinth(n, key)
+                pages = [("cbc", None, plain, modes.cbc_encrypt(cipher, start, plain)), ("ctr", i, plain[:-5], modes.ctr_crypt(cipher, start, i, plain[:-5]))]
+                tag = modes.cmac(cipher, plain, 8 + j) if n == 1 else None
+            yield tables, n, l, key, start, pages, plain, tag
+
+
+def sets(place, alter=lambda data: data):
+    """Pages and tags with other tables, from a set file of bytes and from one of digits; with other tables, or the published ones, they differ."""
+    for tables, n, l, key, start, pages, plain, tag in set_cases():
+        raw = b"".join(tables)
+        text = "\n".join(raw.hex(" ", 4)[at : at + 36].upper() for at in range(0, 594, 36)).encode()
+        place.write("raw.set", raw)
+        place.write("text.set", text)
+        place.write("set.key", key.hex().encode())
+        for mode, q, page, secret in pages:
+            what = f"{mode} with other tables, n = {n}, l = {l}"
+            case = dict(mode=mode, n=n, l=l, key="set.key", start=start.hex(), q=q, names=("-", "-"))
+            place.works(f"{what}, sealed", words(**case, tables="raw.set"), alter(secret), out="-", given=page)
+            place.works(f"{what}, opened", words("open", **case, tables="text.set"), alter(page), out="-", given=secret)
+            published = place.run(words("open", **case), given=secret)
+            if published.returncode != 0 or published.stdout == page:
+                raise Wrong(f"{what}: the published tables open it too")
+        if tag:
+            case = dict(l=l, key="set.key", names=("-",))
+            place.works("a tag with other tables", tag_words(**case, value=len(tag), tables="raw.set"), alter(tag).hex().encode() + b"\n", out="-", given=plain)
+            place.works("verified", tag_words("verify", **case, value=alter(tag).hex(), tables="text.set"), b"", out="-", given=plain)
+            place.fails("by the published tables", 4, "no: altered", tag_words("verify", **case, value=tag.hex()), out=None, given=plain)
+    for name in ("raw.set", "text.set", "set.key"):
+        os.remove(place.at(name))
+
+
+def set_files(place):
+    """Ways to write a set, and sets that are refused or cannot be read."""
+    page, published = place.read("page"), b"".join(archivists_sets.PUBLISHED)
+    other = b"".join(archivists_sets.OTHERS[2])
+    place.write("published.set", published)
+    place.works("the published tables", words(mode="cbc", tables="published.set"), sealed("cbc", page))
+    place.works("the published tables for a tag", tag_words(tables="published.set"), tag_of(page).encode() + b"\n", out="-")
+    digits = published.hex()
+    for what, data in (
+        ("one line", digits.encode()), ("capitals", digits.upper().encode()), ("two lines", f"{digits[:512]}\n{digits[512:]}\n".encode()),
+        ("spaces and tabs", "\t".join(digits[i : i + 2] + " \r\n" for i in range(0, 528, 2)).encode()), ("bytes", published),
+    ):  # fmt: skip
+        place.write("some.set", data)
+        place.works(f"a set as {what}", words(mode="cbc", tables="some.set"), sealed("cbc", page))
+        place.works(f"a set as {what} from standard input", words(mode="cbc", tables="-"), sealed("cbc", page), given=data)
+    os.remove(place.at("out"))
+    # 14, 13, then the numbers of the key
+    twice, none = other[:255] + other[:1] + other[256:], other[:256] + bytes(range(8))
+    both = twice[:256] + none[256:]
+    place.write("other.key", b"ab" * 15)
+    for what, number, data in (("two equal bytes", 14, twice), ("a row that XORs to zero", 13, none), ("both", 14, both), ("zeros", 14, bytes(264))):
+        for form, name in ((data.hex().encode(), "digits.set"), (data, "bytes.set")):
+            place.write(name, form)
+        for case in (words(tables="digits.set"), words(n=3, l=9, key="other.key", start="00", tables="digits.set"), words("open", "cbc", tables="digits.set")):
+            place.refuses(f"a set of {what}", number, case)
+        for way, value in (("tag", None), ("verify", "00" * 16)):
+            place.refuses(f"{way} by a set of {what}", number, tag_words(way, l=9, value=value, tables="digits.set"), out=None)
+        place.fails(f"bytes of {what}", 1, f"refused with {number}: ", words(tables="bytes.set"))
+    place.write("digits.set", twice.hex().encode())
+    place.fails("which bytes are equal", 1, f"bytes 0 and 255 of the substitution, from 0 on, are both {other[0]:02x}", words(tables="digits.set"))
+    place.write("digits.set", other.hex().encode())
+    place.refuses("a good set, and n = 3", 1, words(n=3, tables="digits.set"))
+    place.refuses("a good set, and l = 9", 2, words(l=9, tables="digits.set"))
+    place.refuses("a good set, and a short key", 3, words(key="other.key", tables="digits.set"))
+    place.refuses("a good set, and a short start block", 6, words(start="00", tables="digits.set"))
+    # usage
+    for what, says, data in (
+        ("263 bytes", "a set is 264 bytes", other[:-1].hex().encode()), ("265 bytes", "a set is 264 bytes", other.hex().encode() + b"00"),
+        ("no byte", "a set is 264 bytes", b""), ("a substitution alone", "a set is 264 bytes", other[:256].hex().encode()),
+        ("263 bytes as they are", "is no hexadecimal digit; it has 263 bytes", other[:-1]), ("odd digits", "odd number of hexadecimal digits (527)", other.hex()[1:].encode()),
+        ("no digits", "character 5 is no hexadecimal digit", b"2bf8x" + other.hex().encode()), ("a long file", "more than 65536 bytes", b"00" * 32769),
+    ):  # fmt: skip
+        place.write("wrong.set", data)
+        place.fails(f"a set of {what}", 2, says, words(tables="wrong.set"))
+        place.fails(f"a set of {what} for a tag", 2, says, tag_words(tables="wrong.set"), out=None)
+    good = words(tables="digits.set")
+    place.fails("--set twice", 2, "--set stands twice", [*good, "--set", "digits.set"])
+    place.fails("--set without value", 2, "--set lacks its value", [*words(), "--set"])
+    place.fails("an empty name", 2, "name is empty", words(tables=""))
+    place.fails("set and IN from one stream", 2, "only one can come from standard input", words(tables="-", names=("-", "out")))
+    place.fails("set and key from one stream", 2, "only one can come from standard input", words(key="-", tables="-"))
+    place.fails("the set file is OUT", 2, "OUT is the set file", words(tables="digits.set", names=("page", "digits.set")), out="digits.set")
+    if place.read("digits.set") != other.hex().encode():
+        raise Wrong("the set file was replaced")
+    place.fails("no set file", 3, "missing.set", words(tables="missing.set"))
+    place.fails("a directory for a set file", 3, "directory", words(tables="."))
+    place.fails("no set file for a tag", 3, "missing.set", tag_words(tables="missing.set"), out=None)
+    for name in ("published.set", "some.set", "digits.set", "bytes.set", "wrong.set", "other.key"):
+        os.remove(place.at(name))
+
+
 def refusals(place):
     """Status 1, with the number; where several apply, the first by document 01's order."""
     for n in (0, 3, 8, 257, (1 << 32) + 1, (1 << 64) - 1, 1 << 64, 10**30):
@@ -612,12 +722,12 @@ def main():
         held = place.names()
         try:
             tag_parts = (tag_vectors, tag_forms, altered_pages, tag_refusals, tag_usage, tag_files)
-            for part in (vectors, forms, help_page, refusals, usage, files, ended, progress, *tag_parts):
+            for part in (vectors, forms, help_page, refusals, usage, files, ended, progress, *tag_parts, sets, set_files):
                 part(place)
                 if place.names() != held:
                     raise Wrong(f"{part.__name__} left {place.names()}")
             count = place.count
-            for part in (vectors, tag_vectors):
+            for part in (vectors, tag_vectors, sets):
                 altered(Place(tempfile.mkdtemp(dir=path)), part)
         except Wrong as wrong:
             sys.exit(f"command: FAILED: {wrong}")

@@ -55,6 +55,7 @@ tests/tapes.py || fail "the tapes"
 make -s lib >"$work/lib" 2>&1 || { tail -n 20 "$work/lib"; fail "make lib"; }
 tests/c_interface.sh || fail "the C interface"
 tests/compare_c.py --short || fail "the comparison through the C interface"
+tests/stores.py || fail "the store and keys that name a set"
 if [ -n "$rust" ]; then
     tests/rust.sh || fail "the Rust crate and the command"
 else

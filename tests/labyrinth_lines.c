@@ -150,6 +150,76 @@ static void tag(char **fields) {
     take_back(yes, !makes);
 }
 
+/* fields: the operation, the store, then for loading the publisher, the set, the substitution and the row, for taking the first two */
+static void store(char **fields, int count) {
+    struct lent st = lend(fields[1]);
+    if (count == 2) answer(labyrinth_store_fresh(st.pointer, st.length), st);
+    else if (count == 4) answer(labyrinth_store_take(st.pointer, st.length, number(fields[2]), number(fields[3])), st);
+    else {
+        struct lent substitution = lend(fields[4]), row = lend(fields[5]);
+        answer(labyrinth_store_load(st.pointer, st.length, number(fields[2]), number(fields[3]), substitution.pointer, substitution.length,
+                                    row.pointer, row.length), st);
+        take_back(substitution, 0);
+        take_back(row, 0);
+    }
+    take_back(st, 1);
+}
+
+/* fields: the operation, the store, n, l, the set, the key, the working key */
+static void expand(char **fields) {
+    struct lent st = lend(fields[1]), key = lend(fields[5]), working = lend(fields[6]);
+    answer(labyrinth_expand(st.pointer, st.length, number(fields[2]), number(fields[3]), number(fields[4]), key.pointer, key.length,
+                            working.pointer, working.length), working);
+    take_back(st, 0);
+    take_back(key, 0);
+    take_back(working, 1);
+}
+
+#define KEY st.pointer, st.length, working.pointer, working.length
+
+typedef uint8_t block_fn(const uint8_t *, size_t, const uint8_t *, size_t, const uint8_t *, size_t, uint8_t *, size_t);
+static const struct { const char *name; block_fn *fn; } BLOCKS[] = {
+    {"key_encipher", labyrinth_key_encipher}, {"key_encipher_by_matrix", labyrinth_key_encipher_by_matrix},
+    {"key_decipher", labyrinth_key_decipher}, {"key_decipher_by_matrix", labyrinth_key_decipher_by_matrix},
+};
+
+/* fields: the operation, the store, the working key, then source and destination, or message and tag; what yes points to as above */
+static void key_block_or_tag(char **fields) {
+    struct lent st = lend(fields[1]), working = lend(fields[2]), src = lend(fields[3]), dst = lend(fields[4]);
+    struct lent yes = lend(request / 2 % 2 ? "aa" : "01");
+    int verifies = strcmp(fields[0], "key_cmac_verify") == 0;
+    block_fn *fn = strcmp(fields[0], "key_cmac") == 0 ? labyrinth_key_cmac : NULL;
+    for (size_t i = 0; i < sizeof BLOCKS / sizeof *BLOCKS; i++)
+        if (strcmp(fields[0], BLOCKS[i].name) == 0) fn = BLOCKS[i].fn;
+    if (verifies) {
+        uint8_t r = labyrinth_key_cmac_verify(KEY, src.pointer, src.length, dst.pointer, dst.length, yes.pointer);
+        printf("%u %u\n", r, *yes.bytes);
+    } else if (fn) answer(fn(KEY, src.pointer, src.length, dst.pointer, dst.length), dst);
+    else stop("no operation %s", fields[0]);
+    take_back(st, 0);
+    take_back(working, 0);
+    take_back(src, 0);
+    take_back(dst, !verifies);
+    take_back(yes, verifies);
+}
+
+/* fields: the operation, the store, the working key, start, for CTR q, then source and destination */
+static void key_run(char **fields, int is_ctr) {
+    struct lent st = lend(fields[1]), working = lend(fields[2]), start = lend(fields[3]);
+    struct lent src = lend(fields[4 + is_ctr]), dst = lend(fields[5 + is_ctr]);
+    uint8_t r;
+    if (is_ctr) r = labyrinth_key_ctr(KEY, start.pointer, start.length, number(fields[4]), src.pointer, src.length, dst.pointer, dst.length);
+    else if (strcmp(fields[0], "key_cbc_seal") == 0)
+        r = labyrinth_key_cbc_seal(KEY, start.pointer, start.length, src.pointer, src.length, dst.pointer, dst.length);
+    else r = labyrinth_key_cbc_open(KEY, start.pointer, start.length, src.pointer, src.length, dst.pointer, dst.length);
+    answer(r, dst);
+    take_back(st, 0);
+    take_back(working, 0);
+    take_back(start, 0);
+    take_back(src, 0);
+    take_back(dst, 1);
+}
+
 int main(void) {
     char *line = NULL;
     size_t room = 0;
@@ -159,6 +229,13 @@ int main(void) {
         request++;
         for (char *f = strtok(line, " \n"); f && count <= FIELDS; f = strtok(NULL, " \n")) fields[count++] = f;
         if (count == 2 && strcmp(fields[0], "mix") == 0) mix(fields[1]);
+        else if (count == 2 && strcmp(fields[0], "store_fresh") == 0) store(fields, count);
+        else if (count == 4 && strcmp(fields[0], "store_take") == 0) store(fields, count);
+        else if (count == 6 && strcmp(fields[0], "store_load") == 0) store(fields, count);
+        else if (count == 7 && strcmp(fields[0], "expand") == 0) expand(fields);
+        else if (count == 6 && (strcmp(fields[0], "key_cbc_seal") == 0 || strcmp(fields[0], "key_cbc_open") == 0)) key_run(fields, 0);
+        else if (count == 7 && strcmp(fields[0], "key_ctr") == 0) key_run(fields, 1);
+        else if (count == 5 && strncmp(fields[0], "key_", 4) == 0) key_block_or_tag(fields);
         else if (count == 3 && strcmp(fields[0], "mix_row") == 0) mix_row(fields[1], fields[2]);
         else if (count == 5 && (strcmp(fields[0], "cmac") == 0 || strcmp(fields[0], "cmac_verify") == 0)) tag(fields);
         else if (count == 6 && (strcmp(fields[0], "encipher") == 0 || strcmp(fields[0], "decipher") == 0)) one_block(fields);

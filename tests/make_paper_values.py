@@ -5,7 +5,6 @@ first line names it; the text around the blocks stays as it is.
     tests/make_paper_values.py            writes the paper anew
     tests/make_paper_values.py --check    fails if the paper's blocks are not what would be written
 """
-import contextlib
 import functools
 import hashlib
 import itertools
@@ -14,12 +13,12 @@ import operator
 import os
 import re
 import sys
-import unittest.mock
 
 sys.dont_write_bytecode = True
 HERE = os.path.dirname(os.path.abspath(__file__))
 PAPER = os.path.join(os.path.dirname(HERE), "docs", "OPENING-A-PAGE.md")
 sys.path[:0] = [os.path.join(HERE, "archivists"), HERE]
+import archivists_sets
 import labyrinth as lab
 import modes
 import papers
@@ -332,6 +331,9 @@ def card():
     yield from (f"sealed   {digits(sealed[at : at + 16])}" for at in range(0, len(sealed), 16))
 
 
+CARD_TAG_KEY, CARD_TAG_LENGTH = bytes_of("card tag key", 24), 12
+
+
 # ---- tables of an archive's own
 
 def own_tables():
@@ -342,21 +344,13 @@ def own_tables():
     return row, bytes(sorted(range(256), key=lambda x: hashlib.sha256(f"card substitution {x}".encode()).digest()))
 
 
-@contextlib.contextmanager
-def with_tables(row, substitution):
-    """The archivists' program with another row and another substitution for the while."""
-    other = dict(G=list(row), S=list(substitution), S_INV=[substitution.index(y) for y in range(256)])
-    other["TL"] = [lab.bytes_to_word([lab.gf_mul(g, x) for g in row]) for x in range(256)]
-    with unittest.mock.patch.multiple(lab, **other):
-        yield
-
-
 def card_tables():
-    """What tables of an archive's own add to the card, and the page sealed with them."""
+    """What tables of an archive's own add to the card, the page sealed with them, and its tag made with them."""
     row, substitution = own_tables()
-    with with_tables(row, substitution):
+    with archivists_sets.with_set(substitution, row):
         sealed = card_run()[-1]
-    for name, data in (("row", row), ("subst", substitution), ("sealed", sealed)):
+        tag = made_tag(CARD_TAG_KEY, sealed, CARD_TAG_LENGTH)
+    for name, data in (("row", row), ("subst", substitution), ("sealed", sealed), ("tag", tag)):
         yield from (f"{name:<8} {digits(data[at : at + 16])}" for at in range(0, len(data), 16))
 
 
@@ -458,10 +452,9 @@ def cmac_vectors():
 
 def card_tag():
     """What the card's tag adds to the card."""
-    l, length = 3, 12
-    key = bytes_of("card tag key", 8 * l)
-    yield from (f"tag        {digits(made_tag(key, card_run()[-1], length))}", f"tag-length {length}")
-    yield from (f"tag-l      {l}", f"tag-key    {digits(key)}", "tagged     the sealed page")
+    tag = made_tag(CARD_TAG_KEY, card_run()[-1], CARD_TAG_LENGTH)
+    yield from (f"tag        {digits(tag)}", f"tag-length {CARD_TAG_LENGTH}")
+    yield from (f"tag-l      {len(CARD_TAG_KEY) // 8}", f"tag-key    {digits(CARD_TAG_KEY)}", "tagged     the sealed page")
 
 
 # ---- the tape

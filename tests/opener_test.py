@@ -36,7 +36,7 @@ WRITTEN = {
     VERIFIER: "8ce88397172defc8fe2f7cde41836263f3be50de593d9884f5e276fc84ceba40",
 }
 CHECKED = {OPENER: "996 checked", VERIFIER: "209 compared"}  # what each program's own check says of the paper
-COUNTS = {"CBC pages": 45, "CTR pages": 171, "tags": 315, "tags that get a no": 678, "refusals": 18, "alterations": 121}
+COUNTS = {"CBC pages": 45, "CTR pages": 171, "tags": 315, "tags that get a no": 678, "refusals": 18, "alterations": 124}
 WORD_SUM = re.compile(r"^(\S.* 0x[0-9A-F]{16}) +: [0-9A-F]{4}$", re.M)  # a word line with its check sum
 FAILURES = []
 COUNTED = dict.fromkeys(COUNTS, 0)
@@ -264,8 +264,9 @@ def other_tables(row, substitution):
         yield
 
 
-def own_tables(text, said):
-    """The card with tables of its own: the opener, with these tables, opens its page; with a published one in the place of either it does not."""
+def own_tables(text, said, tag_key):
+    """The card with tables of its own: the opener, with these tables, opens its page, and the verifier makes its tag; with a published one in the
+    place of either they do not."""
     n, l, q = (int(said[name]) for name in ("n", "l", "q"))
     tables = {}
     for line in text.splitlines():
@@ -276,10 +277,12 @@ def own_tables(text, said):
     with other_tables(row, substitution):
         letters = opened()
         same("mixing 1 by the row", opener.mix(1), int.from_bytes(row, "little"))
+        same("its tag", verifier.tag(len(tag_key) // 8, tag_key, sealed, len(tables["tag"])), tables["tag"])
     same("the page of tables of its own", letters, make_paper_values.TEXT[: len(sealed)].encode("ascii"))
     for name, *others in (("published tables", opener.ROW, opener.S), ("the published row", opener.ROW, substitution), ("the published substitution", row, opener.S)):
         with other_tables(*others):
             differ(f"the card's tables: {name}", opened(), letters)
+            differ(f"the card's tag: {name}", verifier.tag(len(tag_key) // 8, tag_key, sealed, len(tables["tag"])), tables["tag"])
 
 
 def with_the_paper(place, rng):
@@ -331,9 +334,9 @@ def with_the_paper(place, rng):
     with open(opened, "rb") as file:
         letters = file.read().decode("ascii", "replace")
     same("the card's page is in the text", f'as ASCII: "{letters}"\n' in text, True)
-    own_tables(blocks["card-tables"][2], said)
     # its tag
-    said = dict(line.split(maxsplit=1) for line in blocks["card-tag"][2].splitlines())
+    page_said, said = said, dict(line.split(maxsplit=1) for line in blocks["card-tag"][2].splitlines())
+    own_tables(blocks["card-tables"][2], page_said, bytes.fromhex(said["tag-key"]))
     words, tag = ["-l", said["tag-l"], "--key", said["tag-key"]], bytes.fromhex(said["tag"])
     done = command(VERIFIER, "tag", *words, "--length", said["tag-length"], sealed)
     same("the card's tag, made", (done.returncode, done.stdout), (0, tag.hex().upper() + "\n"))

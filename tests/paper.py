@@ -20,6 +20,7 @@ ARCHIVE = os.path.join(ROOT, "target", "dist", "liblabyrinth.a")
 PROGRAM = os.path.join(ROOT, "target", "bin", "tape_program")
 HEADER = os.path.join(ROOT, "include", "labyrinth.h")
 sys.path[:0] = [os.path.join(HERE, "archivists"), HERE]
+import archivists_sets
 import labyrinth as lab
 import make_paper_values
 import modes
@@ -56,7 +57,10 @@ def ours(place):
     subprocess.run(["gcc", "-shared", "-o", shared, "-Wl,--whole-archive", ARCHIVE, "-Wl,--no-whole-archive"], check=True, timeout=60)
     library = ctypes.CDLL(shared)
     library.labyrinth_mix.restype = ctypes.c_uint64
-    for name in ("encipher", "decipher", "cbc_seal", "cbc_open", "ctr", "cmac", "cmac_verify"):
+    for name in (
+        "encipher", "decipher", "cbc_seal", "cbc_open", "ctr", "cmac", "cmac_verify", "store_fresh", "store_load", "expand", "key_ctr", "key_cmac",
+        "key_cmac_verify",
+    ):  # fmt: skip
         getattr(library, f"labyrinth_{name}").restype = ctypes.c_uint8
     return library
 
@@ -97,6 +101,20 @@ def our_answer(l, key, message, tag, number=0):
     yes = ctypes.c_uint8(2)
     called("cmac_verify", l, key, message, tag, ctypes.byref(yes), number=number)
     return yes.value
+
+
+@functools.lru_cache(maxsize=None)
+def our_with(row, substitution, n, l, key, start, sealed, tag_key, tag):
+    """With these tables as set 3 of a store: the page opened by CTR from q = 0 on, the sealed page's tag, and the answer to this one."""
+    store, working, out, made, yes = room(papers.STORE), room(papers.WORKING), room(len(sealed)), room(len(tag)), ctypes.c_uint8(2)
+    called("store_fresh", store)
+    called("store_load", store, 1, 3, substitution, row)
+    called("expand", store, n, l, 3, key, working)
+    called("key_ctr", store, working, start, ctypes.c_uint64(0), sealed, out)
+    called("expand", store, 1, len(tag_key) // 8, 3, tag_key, working)
+    called("key_cmac", store, working, sealed, made)
+    called("key_cmac_verify", store, working, sealed, tag, ctypes.byref(yes))
+    return out.raw, made.raw, yes.value
 
 
 @functools.lru_cache(maxsize=None)
@@ -593,15 +611,16 @@ def card_tables(text):
     for line in text.splitlines():
         name, value = line.split(maxsplit=1)
         said[name] = said.get(name, b"") + bytes.fromhex(value)
-    same("what the card says", list(said), ["row", "subst", "sealed"])
-    row, substitution, sealed = said.values()
+    same("what the card says", list(said), ["row", "subst", "sealed", "tag"])
+    row, substitution, sealed, tag = said.values()
     same("256 different bytes, not Table 1", (sorted(substitution), list(substitution) == lab.S), ([*range(256)], False))
     same("eight coefficients that don't XOR to zero, not the published ones", (len(row), functools.reduce(int.__xor__, row) > 0, list(row) == lab.G), (8, True, False))
     n, l, key, start, other = make_paper_values.card_run()
     plain = make_paper_values.TEXT[: len(other)].encode("ascii")
     opened = lambda: modes.ctr_crypt(lab.Labyrinth(n, key), start, 0, sealed)
-    with make_paper_values.with_tables(row, substitution):
+    with archivists_sets.with_set(substitution, row):
         same("theirs, opened with these tables", opened(), plain)
+        same("their tag with these tables", modes.cmac(lab.Labyrinth(1, make_paper_values.CARD_TAG_KEY), sealed, len(tag)), tag)
         same("mixed 1", lab.word_to_bytes(lab.cmbn_poly(1)), [*row])
         eight = 0x0123456789ABCDEF
         for _ in range(8):
@@ -610,6 +629,9 @@ def card_tables(text):
     for _ in range(3):
         power = lab.gf_mul(power, power)
     same("mixed eight times", lab.word_to_bytes(eight), [lab.gf_mul(b, power) for b in lab.word_to_bytes(0x0123456789ABCDEF)])
+    page, given, yes = our_with(row, substitution, n, l, key, start, sealed, make_paper_values.CARD_TAG_KEY, tag)
+    same("ours, opened with these tables, its tag and the answer to it", (page, given, yes), (plain, tag, 1))
+    same("the tag's length, and another tag with the published tables", (len(tag), our_tag(len(make_paper_values.CARD_TAG_KEY) // 8, make_paper_values.CARD_TAG_KEY, sealed, len(tag)) != tag), (make_paper_values.CARD_TAG_LENGTH, True))
     noise = (opened(), our("ctr", n, l, key, start, sealed, q=0))
     same("noise with the published tables, by theirs and ours", (noise[0] == noise[1], sum(a == b for a, b in zip(noise[0], plain)) < 5), (True, True))
 

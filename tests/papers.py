@@ -17,31 +17,32 @@ TAG_LENGTHS = range(8, 17)  # lengths of tags
 PUBLISHED = bytes.fromhex("0101030F0A1F0F0C")  # the row
 MIXED = {0x1: 0x0C0F1F0A0F030101, 0x100: 0x0F1F0A0F0301010C, 0x0101010101010101: 0x1A1A1A1A1A1A1A1A}  # words, and what mixing gives
 
-# ---- numbers: document 01, 'Operations and what they turn away'. n is the working key's, but for expansion
+# ---- numbers: document 01, 'Operations and what they turn away', and of Job 7 in document 02 the 15 where the set that is named is not loaded.
+# n is the working key's, but for expansion
 
 
-def expansion(n, l, key):
-    return 1 if n not in NS else 2 if l not in LS else 3 if key != 8 * n * l else 0
+def expansion(n, l, key, loaded=True):
+    return 1 if n not in NS else 2 if l not in LS else 15 if not loaded else 3 if key != 8 * n * l else 0
 
 
-def block(n, source, destination):
-    return 1 if n not in NS else 4 if source != 16 * n else 5 if destination != 16 * n else 0
+def block(n, source, destination, loaded=True):
+    return 1 if n not in NS else 15 if not loaded else 4 if source != 16 * n else 5 if destination != 16 * n else 0
 
 
-def cbc(n, start, source, destination):
-    return 1 if n not in NS else 6 if start != 16 * n else 4 if source % (16 * n) else 5 if destination != source else 0
+def cbc(n, start, source, destination, loaded=True):
+    return 1 if n not in NS else 15 if not loaded else 6 if start != 16 * n else 4 if source % (16 * n) else 5 if destination != source else 0
 
 
-def ctr(n, start, source, destination):
-    return 1 if n not in NS else 6 if start != 16 * n else 5 if destination != source else 0
+def ctr(n, start, source, destination, loaded=True):
+    return 1 if n not in NS else 15 if not loaded else 6 if start != 16 * n else 5 if destination != source else 0
 
 
 # ---- document 02
 
 
-def tag(n, length):
+def tag(n, length, loaded=True):
     """Job 1, of a tag that is made or verified."""
-    return 1 if n not in NS else 12 if n != 1 else 11 if length not in TAG_LENGTHS else 0
+    return 1 if n not in NS else 15 if not loaded else 12 if n != 1 else 11 if length not in TAG_LENGTHS else 0
 
 
 def mixing(row):
@@ -52,6 +53,46 @@ def mixing(row):
 def table(row, words):
     """Job 4, of a row's merged table in a buffer of so many words."""
     return mixing(row) or (5 if words != 256 else 0)
+
+
+class Store:
+    """Job 7, naively: four sets, each a substitution and a row, and what publishers 0 and 1 have taken, where 4 and above is none."""
+
+    def __init__(self, sets, taken):
+        self.sets, self.taken = list(sets), list(taken)
+
+    @classmethod
+    def fresh(cls):
+        return cls([(bytes(labyrinth.S), PUBLISHED), *[(bytes(256), bytes(8))] * 3], [4, 4])
+
+    def content(self, substitution, row):
+        """What loading refuses for its content."""
+        return 14 if sorted(substitution) != list(range(256)) else mixing(row)
+
+    def tables(self, i):
+        """Set 0 is the published one, whatever stands at its place."""
+        return (bytes(labyrinth.S), PUBLISHED) if i == 0 else self.sets[i]
+
+    def loaded(self, i):
+        return i < 4 and self.content(*self.tables(i)) == 0
+
+    def held(self, i):
+        return i == 0 or i in self.taken
+
+    def outside(self, publisher, i):
+        return publisher > 1 or i > 3
+
+    def load(self, publisher, i, substitution, row):
+        number = 15 if self.outside(publisher, i) else self.content(substitution, row) or (16 if self.held(i) else 0)
+        if number == 0:
+            self.sets[i] = substitution, row
+        return number
+
+    def take(self, publisher, i):
+        number = 15 if self.outside(publisher, i) or not self.loaded(i) else 0
+        if number == 0:
+            self.taken[publisher] = i
+        return number
 
 
 # ---- what the C interface adds: the key itself is handed in, so that expansion's numbers come first; and a row is a buffer
@@ -74,6 +115,33 @@ def through_c(op, n, l, key, start, source, destination):
 def mixing_through_c(row):
     """The 4 is the header's."""
     return 4 if len(row) != 8 else mixing(row)
+
+
+# records as bytes; one of another length gets 4 before all else, and so does a row that isn't eight bytes, at loading
+
+STORE, WORKING = 1072, 272
+
+
+def number_bytes(number):
+    return number.to_bytes(8, "little")
+
+
+def store_bytes(store):
+    return b"".join(substitution + row for substitution, row in store.sets) + b"".join(map(number_bytes, store.taken))
+
+
+def store_of(data, kind=Store):
+    sets = [(data[at : at + 256], data[at + 256 : at + 264]) for at in range(0, 1056, 264)]
+    return kind(sets, [int.from_bytes(data[at : at + 8], "little") for at in (1056, 1064)])
+
+
+def working_bytes(n, i, words):
+    """n, the set, and up to 32 words as bytes."""
+    return (number_bytes(n) + number_bytes(i) + words).ljust(WORKING, b"\0")
+
+
+def working_of(data):
+    return int.from_bytes(data[:8], "little"), int.from_bytes(data[8:16], "little"), data[16:]
 
 
 # ---- the tape: document 01, 'The command tape', with the end rule of document 02's Job 2

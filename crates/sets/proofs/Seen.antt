@@ -2,7 +2,7 @@
 -- Assumes nothing.
 use mathlib.Core.Path.{_≡_, refl, sym, ap, ap₂, _∙_}
 use mathlib.Core.List.{List, [], _∷_}
-use mathlib.Core.Bool.{Bool, true, false, not, false≢true, _&&_, _||_}
+use mathlib.Core.Bool.{Bool, true, false, not, false≢true, _||_}
 use Prim.Native.Nat.{ℕ, zero, suc, _+_, _<_, _≤_}
 use native.Mathlib.Numerals.{add-one}
 use native.Mathlib.Omega.{arith}
@@ -10,7 +10,7 @@ use borrow.Author.Tests.{eqb-true, eqb-false, ne-eqb}
 use lib.Dec.{eqb}
 use lib.ListN.{length, drop, getD, set, replicate, length-set, length-replicate, getD-replicate, drop-of-length-le}
 use lib.Seq.{drop-cons, getD-set-same, getD-set-other}
-use Rattle.forms.specs.Lists.{has, distinct, below}
+use Rattle.forms.specs.Lists.{has, distinct}
 use Rattle.forms.proofs.Booleans.{and-both, false-unless}
 use Rattle.forms.proofs.Different.{below-iff}
 use Rattle.field.specs.Substitution.{different}

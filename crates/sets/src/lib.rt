@@ -196,14 +196,14 @@ pub fn load(store: Store, publisher: usize, i: usize, substitution: &[u8], row: 
         };
     }
     let s = copied(substitution);
-    let mut r = store;
-    r.sets[i] = Set {
+    let mut filled = store;
+    filled.sets[i] = Set {
         substitution: s,
         row: row,
     };
     Changed {
         number: 0,
-        store: r,
+        store: filled,
     }
 }
 
@@ -223,11 +223,11 @@ pub fn take(store: Store, publisher: usize, i: usize) -> Changed
             store: store,
         };
     }
-    let mut r = store;
-    r.taken[publisher] = i;
+    let mut moved = store;
+    moved.taken[publisher] = i;
     Changed {
         number: 0,
-        store: r,
+        store: moved,
     }
 }
 
@@ -238,11 +238,11 @@ pub fn inverse(s: &[u8; 256]) -> [u8; 256]
     ensures { λ r. ⌜ r ≡ inverseBytes (now (s .entry)) ⌝ }
 {
     let mut r = [0u8; 256];
-    let mut i = 256usize;
-    while 0 < i {
-        i -= 1;
-        let x = place(s[i]);
-        r[x] = i as u8;
+    let mut at = 256usize;
+    while 0 < at {
+        at -= 1;
+        let x = place(s[at]);
+        r[x] = at as u8;
     }
     r
 }

@@ -2,9 +2,9 @@
 use crate::pieces::Mode;
 use std::ffi::{OsStr, OsString};
 
-pub const USAGE: &str = "labyrinth seal|open --mode cbc|ctr -n N -l L --key-file F --start HEX [--offset Q] IN OUT
-       labyrinth tag -l L --key-file F [--length T] IN
-       labyrinth verify -l L --key-file F --tag HEX IN";
+pub const USAGE: &str = "labyrinth seal|open --mode cbc|ctr -n N -l L --key-file F --start HEX [--offset Q] [--set FILE] IN OUT
+       labyrinth tag -l L --key-file F [--length T] [--set FILE] IN
+       labyrinth verify -l L --key-file F --tag HEX [--set FILE] IN";
 
 pub enum Request {
     Help,
@@ -18,6 +18,7 @@ pub struct Arguments {
     pub n: usize,
     pub l: usize,
     pub key_file: OsString,
+    pub set_file: Option<OsString>,
     pub start: Vec<u8>,
     pub offset: u64,
     pub input: OsString,
@@ -28,6 +29,7 @@ pub struct TagArguments {
     pub task: Tagging,
     pub l: usize,
     pub key_file: OsString,
+    pub set_file: Option<OsString>,
     pub input: OsString,
 }
 
@@ -40,7 +42,7 @@ pub enum Tagging {
 
 const WORDS: [&str; 4] = ["seal", "open", "tag", "verify"];
 /// Each option with the words that take it.
-const OPTIONS: [(&str, &[&str]); 8] = [
+const OPTIONS: [(&str, &[&str]); 9] = [
     ("--mode", &["seal", "open"]),
     ("-n", &["seal", "open"]),
     ("-l", &WORDS),
@@ -49,6 +51,7 @@ const OPTIONS: [(&str, &[&str]); 8] = [
     ("--offset", &["seal", "open"]),
     ("--length", &["tag"]),
     ("--tag", &["verify"]),
+    ("--set", &WORDS),
 ];
 /// A tag's length where --length is left out.
 const WHOLE_TAG: usize = 16;
@@ -85,7 +88,7 @@ pub fn read(words: impl Iterator<Item = OsString>) -> Result<Request, String> {
             return Err(format!("'{word}' takes no {option}{why}"));
         }
     }
-    let [mode, n, l, key_file, start, offset, length, tag] = values;
+    let [mode, n, l, key_file, start, offset, length, tag, set_file] = values;
     match word {
         "tag" | "verify" => {
             let [input] = files(names, "IN is")?;
@@ -96,8 +99,8 @@ pub fn read(words: impl Iterator<Item = OsString>) -> Result<Request, String> {
                 (_, None) => Tagging::Make(WHOLE_TAG),
                 (_, length) => Tagging::Make(size_of(length, "--length")?),
             };
-            check_names(&key_file, &[&input])?;
-            Ok(Request::Tag(TagArguments { task, l, key_file, input }))
+            check_names(&key_file, &set_file, &[&input])?;
+            Ok(Request::Tag(TagArguments { task, l, key_file, set_file, input }))
         }
         _ => {
             let [input, output] = files(names, "IN and OUT are")?;
@@ -116,8 +119,8 @@ pub fn read(words: impl Iterator<Item = OsString>) -> Result<Request, String> {
                     .ok_or("--offset takes a number below 2^64, decimal or 0x and hexadecimal digits")?,
                 (Mode::Cbc, _) => return Err("--offset is for --mode ctr only".to_string()),
             };
-            check_names(&key_file, &[&input, &output])?;
-            Ok(Request::Work(Arguments { seal: word == "seal", mode, n, l, key_file, start, offset, input, output }))
+            check_names(&key_file, &set_file, &[&input, &output])?;
+            Ok(Request::Work(Arguments { seal: word == "seal", mode, n, l, key_file, set_file, start, offset, input, output }))
         }
     }
 }
@@ -127,14 +130,16 @@ fn files<const COUNT: usize>(names: Vec<OsString>, wanted: &str) -> Result<[OsSt
 }
 
 /// IN stands first.
-fn check_names(key_file: &OsStr, names: &[&OsStr]) -> Result<(), String> {
-    if key_file.is_empty() || names.iter().any(|name| name.is_empty()) {
+fn check_names(key_file: &OsStr, set_file: &Option<OsString>, names: &[&OsStr]) -> Result<(), String> {
+    let read: Vec<&OsStr> = [key_file, names[0]].into_iter().chain(set_file.as_deref()).collect();
+    if read.iter().chain(names).any(|name| name.is_empty()) {
         return Err("a file's name is empty".to_string());
     }
-    if key_file == "-" && names[0] == "-" {
-        return Err("the key and IN can't both come from standard input".to_string());
+    match read.iter().filter(|name| **name == "-").count() {
+        0 | 1 => Ok(()),
+        _ if set_file.is_none() => Err("the key and IN can't both come from standard input".to_string()),
+        _ => Err("of the key, the set and IN only one can come from standard input".to_string()),
     }
-    Ok(())
 }
 
 fn text_of(value: Option<OsString>, option: &str) -> Result<String, String> {

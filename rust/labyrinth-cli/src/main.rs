@@ -6,7 +6,7 @@ mod pieces;
 mod progress;
 
 use arguments::{Arguments, Request, TagArguments, Tagging};
-use labyrinth::{Error, TagKey};
+use labyrinth::{Error, Key, Store};
 use output::Output;
 use pieces::{Failure, Mode, Task, PIECE};
 use progress::Progress;
@@ -21,6 +21,9 @@ use std::process::exit;
 struct Stop(i32, String);
 
 const LONGEST_KEY_FILE: u64 = 65536;
+/// Bytes of a set: a substitution's and a row's.
+const SUBSTITUTION: usize = 256;
+const SET: usize = SUBSTITUTION + 8;
 
 fn main() {
     let status = match run() {
@@ -50,9 +53,12 @@ fn print(text: &str) -> Result<(), Stop> {
 
 fn work(a: &Arguments) -> Result<(), Stop> {
     let (key, key_file) = read_key(&a.key_file)?;
-    let task = Task { seal: a.seal, mode: a.mode, n: a.n, l: a.l, key: &key, q: a.offset };
-    // 1, 2, 3 and 6, before any file is opened: an empty run has no other refusal
-    task.piece(&a.start, &[], &mut []).map_err(|error| refused_page(a, key.len(), error, None))?;
+    let Tables { store, set, file: set_file } = read_set(a.set_file.as_deref())?;
+    // 1, 2, 3 and 6, before any other file is opened: an empty run has no other refusal
+    let refuse = |error| refused_page(a, key.len(), error, None);
+    let working = Key { n: a.n, l: a.l, bytes: &key }.expand(&store, set).map_err(refuse)?;
+    let task = Task { seal: a.seal, mode: a.mode, key: &working, store: &store, q: a.offset };
+    task.piece(&a.start, &[], &mut []).map_err(refuse)?;
 
     let (input, held) = open_input(&a.input)?;
     if let Some(out) = there_now(&a.output)? {
@@ -61,6 +67,9 @@ fn work(a: &Arguments) -> Result<(), Stop> {
         }
         if same(&key_file, &out) {
             return Err(Stop(2, "OUT is the key file".into()));
+        }
+        if set_file.is_some_and(|file| same(&file, &out)) {
+            return Err(Stop(2, "OUT is the set file".into()));
         }
     }
     let length = if held.is_file() && a.input != *"-" { Some(held.len()) } else { None };
@@ -92,17 +101,18 @@ fn work(a: &Arguments) -> Result<(), Stop> {
 /// Makes the tag of IN, or verifies it. IN is held in memory as a whole.
 fn tag(a: &TagArguments) -> Result<(), Stop> {
     let (bytes, _) = read_key(&a.key_file)?;
-    let key = TagKey { l: a.l, bytes: &bytes };
+    let Tables { store, set, .. } = read_set(a.set_file.as_deref())?;
     let (mut made, option, count) = match &a.task {
         // a length past 16 is as wrong as 17
         Tagging::Make(count) => (vec![0; (*count).min(17)], "--length", *count),
         Tagging::Verify(tag) => (Vec::new(), "--tag", tag.len()),
     };
-    let mut run = |msg: &[u8]| match &a.task {
-        Tagging::Make(_) => key.cmac(msg, &mut made).map(|()| true),
-        Tagging::Verify(tag) => key.cmac_verify(msg, tag),
-    };
     let stop = |error| refused(error, 1, a.l, bytes.len(), || format!("{option} gives {count} bytes"));
+    let key = Key { n: 1, l: a.l, bytes: &bytes }.expand(&store, set).map_err(stop)?;
+    let mut run = |msg: &[u8]| match &a.task {
+        Tagging::Make(_) => key.cmac(&store, msg, &mut made).map(|()| true),
+        Tagging::Verify(tag) => key.cmac_verify(&store, msg, tag),
+    };
     // 2, 3 and 11, before IN is opened: there is no other refusal
     run(&[]).map_err(stop)?;
     let mut page = Vec::new();
@@ -151,16 +161,57 @@ fn same(a: &Metadata, b: &Metadata) -> bool {
     a.is_file() && b.is_file() && (a.dev(), a.ino()) == (b.dev(), b.ino())
 }
 
-fn read_key(name: &OsStr) -> Result<(Vec<u8>, Metadata), Stop> {
+/// What a key file or a set file, `what`, holds.
+fn read_small(name: &OsStr, what: &str) -> Result<(Vec<u8>, Metadata), Stop> {
     let (file, held) = open_input(name)?;
     let mut text = Vec::new();
-    let shown = named(name, "standard input");
     file.take(LONGEST_KEY_FILE + 1).read_to_end(&mut text).map_err(|e| unread(name, e))?;
     if text.len() as u64 > LONGEST_KEY_FILE {
-        return Err(Stop(2, format!("the key file {shown} has more than {LONGEST_KEY_FILE} bytes: it holds no key")));
+        let shown = named(name, "standard input");
+        return Err(Stop(2, format!("the {what} file {shown} has more than {LONGEST_KEY_FILE} bytes: it holds no {what}")));
     }
-    let key = arguments::hex(&text).map_err(|what| Stop(2, format!("the key file {shown}: {what}")))?;
+    Ok((text, held))
+}
+
+fn read_key(name: &OsStr) -> Result<(Vec<u8>, Metadata), Stop> {
+    let (text, held) = read_small(name, "key")?;
+    let key = arguments::hex(&text).map_err(|what| Stop(2, format!("the key file {}: {what}", named(name, "standard input"))))?;
     Ok((key, held))
+}
+
+/// The store with the set that a run uses, the set's number there, and what its file is.
+struct Tables {
+    store: Store,
+    set: u64,
+    file: Option<Metadata>,
+}
+
+/// The published set, or the one that a file holds: as 264 bytes, or in hexadecimal digits, which are more.
+fn read_set(name: Option<&OsStr>) -> Result<Tables, Stop> {
+    let mut store = Store::fresh();
+    let Some(name) = name else { return Ok(Tables { store, set: 0, file: None }) };
+    let (text, held) = read_small(name, "set")?;
+    let shown = named(name, "standard input");
+    let usage = |what: String| Stop(2, format!("the set file {shown}: {what}"));
+    let wanted = format!("a set is {SET} bytes, a substitution of {SUBSTITUTION} and a row of 8, as they are or in hexadecimal digits");
+    let set = match text.len() {
+        SET => text,
+        count => arguments::hex(&text).map_err(|what| usage(format!("{what}; it has {count} bytes, and {wanted}")))?,
+    };
+    let Ok::<[u8; SET], _>(set) = set.try_into() else { return Err(usage(wanted)) };
+    let (substitution, row) = set.split_at(SUBSTITUTION);
+    store.load(0, 1, substitution, row.try_into().expect("8 bytes are left")).map_err(|error| {
+        let again =
+            (0..substitution.len()).find_map(|at| Some((substitution[..at].iter().position(|byte| *byte == substitution[at])?, at)));
+        let more = match (error, again) {
+            (Error::Substitution, Some((first, at))) => {
+                format!(": bytes {first} and {at} of the substitution, from 0 on, are both {:02x}", substitution[at])
+            }
+            _ => String::new(),
+        };
+        Stop(1, format!("{error} (the set file {shown}{more})"))
+    })?;
+    Ok(Tables { store, set: 1, file: Some(held) })
 }
 
 /// The message names the number and what was wrong in this run, for numbers past 3 by `own`; it shows nothing of the key but its length.

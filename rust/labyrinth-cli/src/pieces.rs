@@ -1,6 +1,6 @@
 //! A run in pieces, with the result of one piece: in CTR the start block goes on by the blocks done (not q, which could pass 2^64); in CBC
-//! the last sealed block is the next start block.
-use labyrinth::{Error, Key, Start};
+//! the last sealed block is the next start block. The key is expanded once, before.
+use labyrinth::{Error, Start, Store, WorkingKey};
 use std::io::{self, Read, Write};
 
 /// Bytes in a piece: a multiple of every block length.
@@ -15,9 +15,8 @@ pub enum Mode {
 pub struct Task<'a> {
     pub seal: bool,
     pub mode: Mode,
-    pub n: usize,
-    pub l: usize,
-    pub key: &'a [u8],
+    pub key: &'a WorkingKey,
+    pub store: &'a Store,
     pub q: u64,
 }
 
@@ -34,11 +33,11 @@ pub enum Failure {
 
 impl Task<'_> {
     pub fn piece(&self, start: &[u8], src: &[u8], dst: &mut [u8]) -> Result<(), Error> {
-        let (key, start) = (Key { n: self.n, l: self.l, bytes: self.key }, Start(start));
+        let (key, store, start) = (self.key, self.store, Start(start));
         match (self.mode, self.seal) {
-            (Mode::Cbc, true) => key.cbc_seal(start, src, dst),
-            (Mode::Cbc, false) => key.cbc_open(start, src, dst),
-            (Mode::Ctr, _) => key.ctr(start, self.q, src, dst),
+            (Mode::Cbc, true) => key.cbc_seal(store, start, src, dst),
+            (Mode::Cbc, false) => key.cbc_open(store, start, src, dst),
+            (Mode::Ctr, _) => key.ctr(store, start, self.q, src, dst),
         }
     }
 
@@ -111,6 +110,14 @@ fn fill(input: &mut impl Read, buffer: &mut [u8]) -> io::Result<usize> {
 #[cfg(test)]
 mod tests {
     use super::*;
+    use labyrinth::Key;
+
+    /// The published set, and one of an archive's own.
+    fn sets() -> [(Store, u64); 2] {
+        let (mut store, other) = (Store::fresh(), (0..=255).rev().collect::<Vec<u8>>());
+        store.load(0, 1, &other, &[2, 0, 0, 0, 0, 0, 0, 0]).unwrap();
+        [(Store::fresh(), 0), (store, 1)]
+    }
 
     /// Gives a few bytes at a time, as a pipe may, and is interrupted now and then.
     struct Dribble<'a>(&'a [u8], usize);
@@ -131,14 +138,16 @@ mod tests {
     #[test]
     fn pieces_give_the_whole() {
         let bytes: Vec<u8> = (0..1100).map(|i| (i * i % 251) as u8).collect();
-        let mut tried = 0;
-        for (n, l) in [1, 2, 4].into_iter().flat_map(|n| [2, 3, 4].map(|l| (n, l))) {
+        let (sets, mut tried) = (sets(), 0);
+        let sizes = [1, 2, 4].into_iter().flat_map(|n| [2, 3, 4].map(|l| (n, l)));
+        for ((n, l), (store, set)) in sizes.flat_map(|size| sets.iter().map(move |set| (size, set))) {
             let block = 16 * n;
+            let key = &Key { n, l, bytes: &bytes[3..3 + 8 * n * l] }.expand(store, *set).unwrap();
             for (mode, seal) in [(Mode::Cbc, true), (Mode::Cbc, false), (Mode::Ctr, true), (Mode::Ctr, false)] {
                 // the last counter, one before it, and one in the middle
                 for (first, q) in [(0xFF, u64::MAX), (0xFF, 1), (0x00, u64::MAX - 1), (0x5A, 0)] {
                     let start = vec![first; block];
-                    let task = Task { seal, mode, n, l, key: &bytes[3..3 + 8 * n * l], q };
+                    let task = Task { seal, mode, key, store, q };
                     for blocks in [0, 1, 2, 3, 4, 6, 7, 12] {
                         for rest in if mode == Mode::Ctr { vec![0, 1, block - 1] } else { vec![0] } {
                             let page = &bytes[..blocks * block + rest];
@@ -156,12 +165,14 @@ mod tests {
                 }
             }
         }
-        assert_eq!(tried, 9 * 4 * 8 * 4 * (2 + 2 * 3));
+        assert_eq!(tried, 2 * 9 * 4 * 8 * 4 * (2 + 2 * 3));
     }
 
     #[test]
     fn a_cut_block_is_refused_at_the_end() {
-        let task = Task { seal: true, mode: Mode::Cbc, n: 1, l: 2, key: &[1; 16], q: 0 };
+        let store = Store::fresh();
+        let key = &Key { n: 1, l: 2, bytes: &[1; 16] }.expand(&store, 0).unwrap();
+        let task = Task { seal: true, mode: Mode::Cbc, key, store: &store, q: 0 };
         for (count, before) in [(15, 0), (33, 32), (47, 32)] {
             let got = run(&task, &[0; 16], 32, Dribble(&vec![7; count], 0), &mut Vec::new(), |_| ());
             match got {

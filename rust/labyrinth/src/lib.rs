@@ -1,6 +1,7 @@
 //! The block cipher Labyrinth, and over it CBC and CTR of NIST SP 800-38A and the tag of SP 800-38B (CMAC): a safe wrapper of the library in
-//! Rattle that is proved against the article and these standards. Each function that takes a key expands it, does one operation and keeps
-//! nothing; two mix a word, two make a row, and one judges a row.
+//! Rattle that is proved against the article and these standards. Each operation of a [`Key`] or a [`TagKey`] expands it, does one thing and
+//! keeps nothing. A [`WorkingKey`] is expanded once and used for many pages; it names a set of tables in a [`Store`], the published set or one
+//! of an archive's own. Two functions mix a word, two make a row, and one judges a row.
 //!
 //! What is proved is the library behind the C interface; this wrapper is not. It hands over what it is given, unchecked, and returns what
 //! the library answered. Safe Rust keeps to what the proofs ask of a caller: slices are valid, and a destination overlaps nothing.
@@ -108,11 +109,132 @@ extern "C" {
     fn labyrinth_row_product(g: *const u8, g_len: usize, h: *const u8, h_len: usize, dst: *mut u8, dst_len: usize) -> u8;
     fn labyrinth_row_inverse(row: *const u8, row_len: usize, dst: *mut u8, dst_len: usize) -> u8;
     fn labyrinth_row_judge(row: *const u8, row_len: usize, yes: *mut u8, word: *mut u64) -> u8;
+    fn labyrinth_store_fresh(store: *mut u8, store_len: usize) -> u8;
+    fn labyrinth_store_load(
+        store: *mut u8,
+        store_len: usize,
+        publisher: u64,
+        set: u64,
+        substitution: *const u8,
+        substitution_len: usize,
+        row: *const u8,
+        row_len: usize,
+    ) -> u8;
+    fn labyrinth_store_take(store: *mut u8, store_len: usize, publisher: u64, set: u64) -> u8;
+    fn labyrinth_expand(
+        store: *const u8,
+        store_len: usize,
+        n: u64,
+        l: u64,
+        set: u64,
+        key: *const u8,
+        key_len: usize,
+        working: *mut u8,
+        working_len: usize,
+    ) -> u8;
+    fn labyrinth_key_encipher(
+        store: *const u8,
+        store_len: usize,
+        working: *const u8,
+        working_len: usize,
+        src: *const u8,
+        src_len: usize,
+        dst: *mut u8,
+        dst_len: usize,
+    ) -> u8;
+    fn labyrinth_key_decipher(
+        store: *const u8,
+        store_len: usize,
+        working: *const u8,
+        working_len: usize,
+        src: *const u8,
+        src_len: usize,
+        dst: *mut u8,
+        dst_len: usize,
+    ) -> u8;
+    fn labyrinth_key_encipher_by_matrix(
+        store: *const u8,
+        store_len: usize,
+        working: *const u8,
+        working_len: usize,
+        src: *const u8,
+        src_len: usize,
+        dst: *mut u8,
+        dst_len: usize,
+    ) -> u8;
+    fn labyrinth_key_decipher_by_matrix(
+        store: *const u8,
+        store_len: usize,
+        working: *const u8,
+        working_len: usize,
+        src: *const u8,
+        src_len: usize,
+        dst: *mut u8,
+        dst_len: usize,
+    ) -> u8;
+    fn labyrinth_key_cbc_seal(
+        store: *const u8,
+        store_len: usize,
+        working: *const u8,
+        working_len: usize,
+        start: *const u8,
+        start_len: usize,
+        src: *const u8,
+        src_len: usize,
+        dst: *mut u8,
+        dst_len: usize,
+    ) -> u8;
+    fn labyrinth_key_cbc_open(
+        store: *const u8,
+        store_len: usize,
+        working: *const u8,
+        working_len: usize,
+        start: *const u8,
+        start_len: usize,
+        src: *const u8,
+        src_len: usize,
+        dst: *mut u8,
+        dst_len: usize,
+    ) -> u8;
+    fn labyrinth_key_ctr(
+        store: *const u8,
+        store_len: usize,
+        working: *const u8,
+        working_len: usize,
+        start: *const u8,
+        start_len: usize,
+        q: u64,
+        src: *const u8,
+        src_len: usize,
+        dst: *mut u8,
+        dst_len: usize,
+    ) -> u8;
+    fn labyrinth_key_cmac(
+        store: *const u8,
+        store_len: usize,
+        working: *const u8,
+        working_len: usize,
+        msg: *const u8,
+        msg_len: usize,
+        tag: *mut u8,
+        tag_len: usize,
+    ) -> u8;
+    fn labyrinth_key_cmac_verify(
+        store: *const u8,
+        store_len: usize,
+        working: *const u8,
+        working_len: usize,
+        msg: *const u8,
+        msg_len: usize,
+        tag: *const u8,
+        tag_len: usize,
+        yes: *mut u8,
+    ) -> u8;
 }
 
-/// Why the library refused: the number of documents 01 and 02. The destination, or the tag to be made, then holds what it held before.
-/// (Document 02's 12, a working key of another n than 1 for a tag, can't come about: a [`TagKey`] has no n. Nor can the library's 4 and 5
-/// for rows that aren't eight bytes: [`mix_row`], [`row_product`], [`row_inverse`] and [`row_judge`] take and give no others.)
+/// Why the library refused: the number of documents 01 and 02. The destination, the tag to be made or the store then holds what it held
+/// before. (The library's 4 and 5 for rows that aren't eight bytes can't come about: [`mix_row`], [`row_product`], [`row_inverse`],
+/// [`row_judge`] and [`Store::load`] take and give no others. Nor can its 4 for a store or a working key of another length.)
 #[derive(Clone, Copy, Debug, PartialEq, Eq, Hash)]
 #[non_exhaustive]
 pub enum Error {
@@ -130,8 +252,16 @@ pub enum Error {
     StartLength,
     /// 11: the tag isn't 8 to 16 bytes.
     TagLength,
+    /// 12: the working key's n isn't 1, for a tag.
+    TagBlockSize,
     /// 13: the row's coefficients XOR to zero.
     RowSum,
+    /// 14: the substitution isn't 256 different bytes.
+    Substitution,
+    /// 15: the publisher or the set is outside the store, or the set isn't loaded.
+    NotInStore,
+    /// 16: someone holds the set, or it is set 0.
+    SetHeld,
     /// Another number, which this crate doesn't know.
     Unknown(u8),
 }
@@ -147,7 +277,11 @@ impl Error {
             Error::DestinationLength => 5,
             Error::StartLength => 6,
             Error::TagLength => 11,
+            Error::TagBlockSize => 12,
             Error::RowSum => 13,
+            Error::Substitution => 14,
+            Error::NotInStore => 15,
+            Error::SetHeld => 16,
             Error::Unknown(number) => number,
         }
     }
@@ -163,7 +297,11 @@ impl fmt::Display for Error {
             Error::DestinationLength => "the destination isn't 16n bytes, or for CBC and CTR isn't as long as the source",
             Error::StartLength => "the start block isn't 16n bytes",
             Error::TagLength => "the tag isn't 8 to 16 bytes",
+            Error::TagBlockSize => "n isn't 1, as it is for a tag",
             Error::RowSum => "the row's coefficients XOR to zero",
+            Error::Substitution => "the substitution isn't 256 different bytes",
+            Error::NotInStore => "the publisher or the set is outside the store, or the set isn't loaded",
+            Error::SetHeld => "someone holds the set",
             Error::Unknown(_) => "a number that the crate labyrinth doesn't know",
         };
         write!(f, "refused with {}: {words}", self.number())
@@ -182,7 +320,11 @@ fn answer(number: u8) -> Result<(), Error> {
         5 => Err(Error::DestinationLength),
         6 => Err(Error::StartLength),
         11 => Err(Error::TagLength),
+        12 => Err(Error::TagBlockSize),
         13 => Err(Error::RowSum),
+        14 => Err(Error::Substitution),
+        15 => Err(Error::NotInStore),
+        16 => Err(Error::SetHeld),
         other => Err(Error::Unknown(other)),
     }
 }
@@ -235,8 +377,8 @@ impl fmt::Debug for TagKey<'_> {
 type Block = unsafe extern "C" fn(usize, usize, *const u8, usize, *const u8, usize, *mut u8, usize) -> u8;
 type Cbc = unsafe extern "C" fn(usize, usize, *const u8, usize, *const u8, usize, *const u8, usize, *mut u8, usize) -> u8;
 
-// Of every call below: a slice's pointer is valid for its length, and dst, or the tag to be made, borrowed mutably, and yes, out, word and a
-// row to be made, variables, overlap nothing else. That is all that the library asks of its caller; lengths and sizes may be anything.
+// Of every call below: a slice's pointer is valid for its length, and dst, the tag to be made or the store, borrowed mutably, and yes, out,
+// word, and a row, a store or a working key to be made, variables, overlap nothing else. That is all that the library asks of its caller; lengths and sizes may be anything.
 impl Key<'_> {
     fn block(&self, map: Block, src: &[u8], dst: &mut [u8]) -> Result<(), Error> {
         let Key { n, l, bytes: key } = *self;
@@ -294,6 +436,16 @@ impl Key<'_> {
             )
         })
     }
+
+    /// Expands the key for a set of a store, which it then names: once for many pages. Refused with 1, 2, 15 (no such set, or it isn't
+    /// loaded) or 3, the first that applies in this order.
+    pub fn expand(&self, store: &Store, set: u64) -> Result<WorkingKey, Error> {
+        let (Key { n, l, bytes: key }, sets) = (*self, &store.0);
+        let mut made = [0; WorkingKey::LENGTH];
+        let (n, l, to) = (n as u64, l as u64, (made.as_mut_ptr(), made.len()));
+        answer(unsafe { labyrinth_expand(sets.as_ptr(), sets.len(), n, l, set, key.as_ptr(), key.len(), to.0, to.1) })?;
+        Ok(WorkingKey(made))
+    }
 }
 
 impl TagKey<'_> {
@@ -312,6 +464,205 @@ impl TagKey<'_> {
         let mut yes = 0;
         answer(unsafe { labyrinth_cmac_verify(l, key.as_ptr(), key.len(), text.0, text.1, given.0, given.1, &mut yes) })?;
         Ok(yes == 1)
+    }
+}
+
+/// Sets of tables that two publishers share: sets 0 to 3, each a substitution of 256 bytes and a row of eight coefficients, and which set
+/// publishers 0 and 1 have taken. Set 0 is the published one in any store, whatever stands at its place, and can't be loaded. A set that
+/// someone has taken can't be loaded anew, so its pages stay open to both. To use a set nobody has to take it.
+///
+/// ```
+/// use labyrinth::{Error, Key, Start, Store};
+///
+/// // an archive's own tables: a substitution of 256 different bytes, a row that doesn't XOR to zero
+/// let substitution: Vec<u8> = (0..=255).map(|byte: u8| byte.wrapping_mul(7) ^ 0x5C).collect();
+/// let row = [0x04, 0xBE, 0x10, 0x02, 0x98, 0x10, 0xC6, 0xDB];
+/// let mut store = Store::fresh();
+/// store.load(0, 1, &substitution, &row)?;
+/// store.take(0, 1)?;
+/// assert_eq!(store.load(1, 1, &substitution, &row), Err(Error::SetHeld));
+///
+/// // expanded once, for set 1, and used for every page
+/// let key = Key { n: 1, l: 2, bytes: &[7; 16] }.expand(&store, 1)?;
+/// for (page, start) in [(b"first page.", [1; 16]), (b"second page", [2; 16])] {
+///     let (mut sealed, mut opened) = ([0; 11], [0; 11]);
+///     key.ctr(&store, Start(&start), 0, page, &mut sealed)?;
+///     key.ctr(&store, Start(&start), 0, &sealed, &mut opened)?;
+///     assert_eq!(&opened, page);
+/// }
+/// # Ok::<(), Error>(())
+/// ```
+#[derive(Clone, PartialEq, Eq)]
+pub struct Store([u8; Store::LENGTH]);
+
+/// Shows what the two publishers have taken, not the tables.
+impl fmt::Debug for Store {
+    fn fmt(&self, f: &mut fmt::Formatter<'_>) -> fmt::Result {
+        write!(f, "Store {{ taken: {} and {}, sets not shown }}", number_at(&self.0, 1056), number_at(&self.0, 1064))
+    }
+}
+
+impl Store {
+    /// Bytes of a store.
+    pub const LENGTH: usize = 1072;
+
+    /// A fresh store: only set 0 is loaded, and none is taken.
+    ///
+    /// Never refused: the store's length is right by type. Were the library to refuse, that is a panic, as in [`row_product`].
+    pub fn fresh() -> Store {
+        let mut store = [0; Store::LENGTH];
+        let number = unsafe { labyrinth_store_fresh(store.as_mut_ptr(), store.len()) };
+        assert_eq!(number, 0, "the library refused a fresh store of {} bytes", Store::LENGTH);
+        Store(store)
+    }
+
+    /// Loads a set: in the place of set `set`, for both publishers. A substitution's byte v, from 0 to 255, is what v is exchanged for.
+    /// Refused with 15 (the publisher isn't 0 or 1, or the set isn't 0 to 3), 14, 13 or 16, the first that applies in this order. Neither takes
+    /// the set nor drops one. Keys that name the set work with its new tables from then on: pages sealed before open under the old ones only.
+    pub fn load(&mut self, publisher: u64, set: u64, substitution: &[u8], row: &[u8; 8]) -> Result<(), Error> {
+        let (table, row) = ((substitution.as_ptr(), substitution.len()), (row.as_ptr(), row.len()));
+        answer(unsafe { labyrinth_store_load(self.0.as_mut_ptr(), self.0.len(), publisher, set, table.0, table.1, row.0, row.1) })
+    }
+
+    /// Takes a set for a publisher, and drops the one that it took before: a set that is taken isn't loaded anew. Refused with 15 if the
+    /// publisher or the set is outside the store or the set isn't loaded, and then what was taken before stays.
+    pub fn take(&mut self, publisher: u64, set: u64) -> Result<(), Error> {
+        answer(unsafe { labyrinth_store_take(self.0.as_mut_ptr(), self.0.len(), publisher, set) })
+    }
+
+    /// A store from its bytes, whatever they are: sets 0 to 3, each 256 bytes of substitution and 8 of row; then what publisher 0 has taken
+    /// and what publisher 1 has, 8 bytes each, least first, a set's number, or 4 and above for none.
+    pub fn from_bytes(bytes: [u8; Store::LENGTH]) -> Store {
+        Store(bytes)
+    }
+
+    /// Its bytes, as in [`Store::from_bytes`].
+    pub fn as_bytes(&self) -> &[u8; Store::LENGTH] {
+        &self.0
+    }
+}
+
+fn number_at(bytes: &[u8], at: usize) -> u64 {
+    let mut number = [0; 8];
+    number.copy_from_slice(&bytes[at..at + 8]);
+    u64::from_le_bytes(number)
+}
+
+/// A key that was expanded ([`Key::expand`]) for a set of a [`Store`], to be used for many blocks and pages. It names its set by number; the
+/// tables are the store's, so each call is handed the store. A call under a set that isn't loaded there is refused with 15, right after 1. With
+/// set 0 it does what [`Key`] and [`TagKey`] do.
+///
+/// What was sealed opens again where the stores at expanding, sealing and opening have that set loaded with the same tables. With others it
+/// opens to something else, and nothing tells. The key is not cleared from memory.
+#[derive(Clone)]
+pub struct WorkingKey([u8; WorkingKey::LENGTH]);
+
+/// Shows n and the set, not the key's words.
+impl fmt::Debug for WorkingKey {
+    fn fmt(&self, f: &mut fmt::Formatter<'_>) -> fmt::Result {
+        write!(f, "WorkingKey {{ n: {}, set: {}, words not shown }}", number_at(&self.0, 0), number_at(&self.0, 8))
+    }
+}
+
+// What the functions for a block or a tag to be made, and those for CBC, have in common.
+type KeyBlock = unsafe extern "C" fn(*const u8, usize, *const u8, usize, *const u8, usize, *mut u8, usize) -> u8;
+type KeyCbc = unsafe extern "C" fn(*const u8, usize, *const u8, usize, *const u8, usize, *const u8, usize, *mut u8, usize) -> u8;
+
+impl WorkingKey {
+    /// Bytes of a working key.
+    pub const LENGTH: usize = 272;
+
+    fn block(&self, map: KeyBlock, store: &Store, src: &[u8], dst: &mut [u8]) -> Result<(), Error> {
+        let (sets, key) = (&store.0, &self.0);
+        let (from, to) = ((src.as_ptr(), src.len()), (dst.as_mut_ptr(), dst.len()));
+        answer(unsafe { map(sets.as_ptr(), sets.len(), key.as_ptr(), key.len(), from.0, from.1, to.0, to.1) })
+    }
+
+    fn cbc(&self, run: KeyCbc, store: &Store, start: Start<'_>, src: &[u8], dst: &mut [u8]) -> Result<(), Error> {
+        let (sets, key, start) = (&store.0, &self.0, start.0);
+        let (from, to) = ((src.as_ptr(), src.len()), (dst.as_mut_ptr(), dst.len()));
+        answer(unsafe { run(sets.as_ptr(), sets.len(), key.as_ptr(), key.len(), start.as_ptr(), start.len(), from.0, from.1, to.0, to.1) })
+    }
+
+    /// Enciphers one block of 16n bytes, by the merged table. Refused with 1, 15, 4 or 5, the first that applies in this order.
+    pub fn encipher(&self, store: &Store, src: &[u8], dst: &mut [u8]) -> Result<(), Error> {
+        self.block(labyrinth_key_encipher, store, src, dst)
+    }
+
+    /// Deciphers one block of 16n bytes, by the merged table. Refused as in [`WorkingKey::encipher`].
+    pub fn decipher(&self, store: &Store, src: &[u8], dst: &mut [u8]) -> Result<(), Error> {
+        self.block(labyrinth_key_decipher, store, src, dst)
+    }
+
+    /// Gives what [`WorkingKey::encipher`] gives, by the matrix, which is slower. Refused as there.
+    pub fn encipher_by_matrix(&self, store: &Store, src: &[u8], dst: &mut [u8]) -> Result<(), Error> {
+        self.block(labyrinth_key_encipher_by_matrix, store, src, dst)
+    }
+
+    /// Gives what [`WorkingKey::decipher`] gives, by the matrix, which is slower. Refused as there.
+    pub fn decipher_by_matrix(&self, store: &Store, src: &[u8], dst: &mut [u8]) -> Result<(), Error> {
+        self.block(labyrinth_key_decipher_by_matrix, store, src, dst)
+    }
+
+    /// Seals whole blocks by CBC, as [`Key::cbc_seal`] does. Refused with 1, 15, 6, 4 or 5, the first that applies in this order.
+    pub fn cbc_seal(&self, store: &Store, start: Start<'_>, src: &[u8], dst: &mut [u8]) -> Result<(), Error> {
+        self.cbc(labyrinth_key_cbc_seal, store, start, src, dst)
+    }
+
+    /// Opens what [`WorkingKey::cbc_seal`] sealed. Refused as there.
+    pub fn cbc_open(&self, store: &Store, start: Start<'_>, src: &[u8], dst: &mut [u8]) -> Result<(), Error> {
+        self.cbc(labyrinth_key_cbc_open, store, start, src, dst)
+    }
+
+    /// Seals or opens any number of bytes by CTR, as [`Key::ctr`] does; its warning holds here too. Refused with 1, 15, 6 or 5, the first that
+    /// applies in this order.
+    pub fn ctr(&self, store: &Store, start: Start<'_>, q: u64, src: &[u8], dst: &mut [u8]) -> Result<(), Error> {
+        let (sets, key, start) = (&store.0, &self.0, start.0);
+        let (from, to) = ((src.as_ptr(), src.len()), (dst.as_mut_ptr(), dst.len()));
+        answer(unsafe {
+            labyrinth_key_ctr(
+                sets.as_ptr(),
+                sets.len(),
+                key.as_ptr(),
+                key.len(),
+                start.as_ptr(),
+                start.len(),
+                q,
+                from.0,
+                from.1,
+                to.0,
+                to.1,
+            )
+        })
+    }
+
+    /// Fills `tag` with the first bytes of the message's CMAC, as [`TagKey::cmac`] does. Refused with 1, 15, 12 or 11, the first that applies in
+    /// this order. A tag's key should be used for nothing else.
+    pub fn cmac(&self, store: &Store, msg: &[u8], tag: &mut [u8]) -> Result<(), Error> {
+        self.block(labyrinth_key_cmac, store, msg, tag)
+    }
+
+    /// Whether `tag` is the first bytes of the message's CMAC, as in [`TagKey::cmac_verify`]: `Ok(false)` is a no. Refused as in
+    /// [`WorkingKey::cmac`].
+    pub fn cmac_verify(&self, store: &Store, msg: &[u8], tag: &[u8]) -> Result<bool, Error> {
+        let (sets, key) = (&store.0, &self.0);
+        let (text, given) = ((msg.as_ptr(), msg.len()), (tag.as_ptr(), tag.len()));
+        let mut yes = 0;
+        answer(unsafe {
+            labyrinth_key_cmac_verify(sets.as_ptr(), sets.len(), key.as_ptr(), key.len(), text.0, text.1, given.0, given.1, &mut yes)
+        })?;
+        Ok(yes == 1)
+    }
+
+    /// A working key from its bytes, whatever they are: n, the set and 32 words, 8 bytes each, least first. Of an illegal n it is refused with 1,
+    /// of a set that isn't loaded with 15.
+    pub fn from_bytes(bytes: [u8; WorkingKey::LENGTH]) -> WorkingKey {
+        WorkingKey(bytes)
+    }
+
+    /// Its bytes, as in [`WorkingKey::from_bytes`]. They are as secret as the key.
+    pub fn as_bytes(&self) -> &[u8; WorkingKey::LENGTH] {
+        &self.0
     }
 }
 
@@ -503,7 +854,7 @@ mod tests {
             let error = answer(number).unwrap_err();
             assert_eq!(error.number(), number);
             assert!(error.to_string().starts_with(&format!("refused with {number}: ")));
-            assert_eq!(matches!(error, Error::Unknown(_)), number > 6 && number != 11 && number != 13);
+            assert_eq!(matches!(error, Error::Unknown(_)), (7..=10).contains(&number) || number > 16);
         }
     }
 
@@ -667,8 +1018,232 @@ mod tests {
         }
     }
 
+    // An archive's own tables, of set 1 below: byte v to 255 - v, the row 02 and seven 00.
+    fn own() -> (Vec<u8>, [u8; 8]) {
+        ((0..=255).rev().collect(), [2, 0, 0, 0, 0, 0, 0, 0])
+    }
+
+    fn store_with_own() -> Store {
+        let (substitution, row) = own();
+        let mut store = Store::fresh();
+        store.load(1, 1, &substitution, &row).unwrap();
+        store
+    }
+
+    // A call that is refused leaves the store as it was.
+    fn refused_with(number: u8, store: &Store, call: impl FnOnce(&mut Store) -> Result<(), Error>) {
+        let mut after = store.clone();
+        assert_eq!(call(&mut after).map_err(Error::number), Err(number));
+        assert!(after == *store, "a refused call changed the store");
+    }
+
+    #[test]
+    fn loading_and_taking() {
+        let (substitution, row) = own();
+        let (twice, none) = ([&substitution[..255], &substitution[..1]].concat(), [5; 8]);
+        let fresh = Store::fresh();
+        for set in [1, 2, 3] {
+            // each fault is mended in the order of the checks
+            for (publisher, outside) in [(2, set), (0, set + 3), (1 << 32, set), (0, (1 << 32) + set), (u64::MAX, set), (1, u64::MAX)] {
+                refused_with(15, &fresh, |s| s.load(publisher, outside, &twice, &none));
+                refused_with(15, &fresh, |s| s.take(publisher, outside));
+            }
+            for wrong in [&twice[..], &substitution[1..], &[], &[0; 256]] {
+                refused_with(14, &fresh, |s| s.load(0, set, wrong, &none));
+            }
+            refused_with(13, &fresh, |s| s.load(0, set, &substitution, &none));
+            refused_with(13, &fresh, |s| s.load(0, set, &substitution, &[0; 8]));
+            refused_with(15, &fresh, |s| s.take(1, set));
+            let mut store = fresh.clone();
+            for publisher in [0, 1, 0] {
+                store.load(publisher, set, &substitution, &row).unwrap();
+            }
+            for publisher in [0, 1] {
+                let mut taken = store.clone();
+                taken.take(publisher, set).unwrap();
+                taken.take(publisher, set).unwrap();
+                for loader in [0, 1] {
+                    refused_with(14, &taken, |s| s.load(loader, set, &twice, &none));
+                    refused_with(13, &taken, |s| s.load(loader, set, &substitution, &none));
+                    refused_with(16, &taken, |s| s.load(loader, set, &substitution, &row));
+                }
+                // a refused take keeps what was taken; another one, of set 0 too, drops it
+                refused_with(15, &taken, |s| s.take(publisher, set % 3 + 1));
+                taken.take(publisher, 0).unwrap();
+                taken.load(1 - publisher, set, &substitution, &row).unwrap();
+            }
+        }
+        for publisher in [0, 1] {
+            refused_with(14, &fresh, |s| s.load(publisher, 0, &twice, &none));
+            refused_with(13, &fresh, |s| s.load(publisher, 0, &substitution, &none));
+            refused_with(16, &fresh, |s| s.load(publisher, 0, &substitution, &row));
+        }
+    }
+
+    // A block enciphered with other tables: the value is from a program that was written from the papers alone.
+    #[test]
+    fn another_set() {
+        let store = store_with_own();
+        let key = Key { n: 1, l: 2, bytes: &[0; 16] };
+        let working = key.expand(&store, 1).unwrap();
+        let mut sealed = [0; 16];
+        for map in [WorkingKey::encipher, WorkingKey::encipher_by_matrix] {
+            map(&working, &store, &[0; 16], &mut sealed).unwrap();
+            assert_eq!(u128::from_be_bytes(sealed), 0x1083C6BF7338B0D1A76B506917D2C2AB);
+        }
+        let mut opened = [1; 16];
+        for map in [WorkingKey::decipher, WorkingKey::decipher_by_matrix] {
+            map(&working, &store, &sealed, &mut opened).unwrap();
+            assert_eq!(opened, [0; 16]);
+        }
+        // with another set, or this one loaded anew, it is another map
+        let mut anew = store.clone();
+        anew.load(0, 1, &own().0, &PUBLISHED).unwrap();
+        for (store, set) in [(&store, 0), (&anew, 1)] {
+            let mut other = *working.as_bytes();
+            other[8] = set;
+            let mut made = [0; 16];
+            WorkingKey::from_bytes(other).encipher(store, &[0; 16], &mut made).unwrap();
+            assert_ne!(made, sealed);
+        }
+    }
+
+    // With set 0, in any store, a working key does what a key does.
+    #[test]
+    fn set_0_is_the_published_one() {
+        let page: Vec<u8> = (0..3000).map(|i| (i * i % 251) as u8).collect();
+        for store in [Store::fresh(), store_with_own(), Store::from_bytes([0x5A; Store::LENGTH]), Store::from_bytes([0; Store::LENGTH])] {
+            for (n, l) in SIZES.into_iter().flat_map(|n| [2, 3, 4].map(|l| (n, l))) {
+                let (key, start) = (Key { n, l, bytes: &page[9..9 + 8 * n * l] }, Start(&page[100..100 + 16 * n]));
+                let working = key.expand(&store, 0).unwrap();
+                let same = |of_key: &dyn Fn(&mut [u8]) -> Result<(), Error>, of_working: &dyn Fn(&mut [u8]) -> Result<(), Error>, count| {
+                    let (mut one, mut other) = (vec![1; count], vec![2; count]);
+                    of_key(&mut one).unwrap();
+                    of_working(&mut other).unwrap();
+                    assert!(one == other, "n = {n}, l = {l}, {count} bytes");
+                };
+                let block = &page[..16 * n];
+                same(&|d| key.encipher(block, d), &|d| working.encipher(&store, block, d), 16 * n);
+                same(&|d| key.encipher(block, d), &|d| working.encipher_by_matrix(&store, block, d), 16 * n);
+                same(&|d| key.decipher(block, d), &|d| working.decipher(&store, block, d), 16 * n);
+                same(&|d| key.decipher(block, d), &|d| working.decipher_by_matrix(&store, block, d), 16 * n);
+                for count in [0, 16 * n, 48 * n, 2048 + 16 * n] {
+                    let text = &page[..count];
+                    same(&|d| key.cbc_seal(start, text, d), &|d| working.cbc_seal(&store, start, text, d), count);
+                    same(&|d| key.cbc_open(start, text, d), &|d| working.cbc_open(&store, start, text, d), count);
+                    let text = &page[..count + 5];
+                    same(&|d| key.ctr(start, u64::MAX, text, d), &|d| working.ctr(&store, start, u64::MAX, text, d), count + 5);
+                    if n == 1 {
+                        let tagger = TagKey { l, bytes: key.bytes };
+                        let mut tag = [0; 12];
+                        tagger.cmac(text, &mut tag).unwrap();
+                        same(&|d| tagger.cmac(text, d), &|d| working.cmac(&store, text, d), 12);
+                        assert_eq!(working.cmac_verify(&store, text, &tag), Ok(true));
+                        tag[11] ^= 1;
+                        assert_eq!(working.cmac_verify(&store, text, &tag), Ok(false));
+                    }
+                }
+            }
+        }
+    }
+
+    // One key, many pages, with tables of an archive's own; the stores at sealing and opening differ in all else.
+    #[test]
+    fn pages_of_another_set() {
+        let page: Vec<u8> = (0..3000).map(|i| (i * 7 % 253) as u8).collect();
+        let sealing = store_with_own();
+        let mut opening = store_with_own();
+        opening.load(0, 2, &own().0, &PUBLISHED).unwrap();
+        opening.take(1, 2).unwrap();
+        for (n, l) in SIZES.into_iter().flat_map(|n| [2, 3, 4].map(|l| (n, l))) {
+            let key = Key { n, l, bytes: &page[..8 * n * l] };
+            let (working, start) = (key.expand(&sealing, 1).unwrap(), Start(&page[200..200 + 16 * n]));
+            for count in [0, 16 * n, 32 * n, 2048 + 16 * n] {
+                let (mut sealed, mut opened, mut published) = (vec![0; count], vec![0; count], vec![0; count]);
+                working.cbc_seal(&sealing, start, &page[..count], &mut sealed).unwrap();
+                working.cbc_open(&opening, start, &sealed, &mut opened).unwrap();
+                assert!(opened == page[..count]);
+                key.cbc_seal(start, &page[..count], &mut published).unwrap();
+                assert!(count == 0 || sealed != published);
+                working.ctr(&sealing, start, 3, &page[..count], &mut sealed).unwrap();
+                working.ctr(&opening, start, 3, &sealed, &mut opened).unwrap();
+                assert!(opened == page[..count]);
+            }
+        }
+    }
+
+    // Each fault is mended in the order of the checks; the destination stays after each.
+    #[test]
+    fn numbers_of_working_keys_in_order() {
+        let store = store_with_own();
+        let with = |n: u64, set: u64| {
+            let mut bytes = [7; WorkingKey::LENGTH];
+            bytes[..8].copy_from_slice(&n.to_le_bytes());
+            bytes[8..16].copy_from_slice(&set.to_le_bytes());
+            WorkingKey::from_bytes(bytes)
+        };
+        type Use = fn(&WorkingKey, &Store, &[u8], &[u8], &mut [u8]) -> Result<(), Error>;
+        let blocks: [Use; 4] = [
+            |k, s, _, from, to| k.encipher(s, from, to),
+            |k, s, _, from, to| k.decipher(s, from, to),
+            |k, s, _, from, to| k.encipher_by_matrix(s, from, to),
+            |k, s, _, from, to| k.decipher_by_matrix(s, from, to),
+        ];
+        let chains: [Use; 2] =
+            [|k, s, start, from, to| k.cbc_seal(s, Start(start), from, to), |k, s, start, from, to| k.cbc_open(s, Start(start), from, to)];
+        let counts: Use = |k, s, start, from, to| k.ctr(s, Start(start), 1, from, to);
+        let tags: [Use; 2] =
+            [|k, s, _, from, to| k.cmac(s, from, to), |k, s, tag, from, to| k.cmac_verify(s, from, tag).map(|yes| to.fill(u8::from(yes)))];
+        let number_of = |run: Use, key: &WorkingKey, [start, src, dst]: [usize; 3]| {
+            let mut held = vec![MARK; dst];
+            let number = run(key, &store, &vec![2; start], &vec![3; src], &mut held).map_or_else(Error::number, |()| 0);
+            assert!(number == 0 || held.iter().all(|&b| b == MARK), "destination after {number}");
+            number
+        };
+        for n in SIZES {
+            let block = 16 * n;
+            let n = n as u64;
+            for unloaded in [2, 3, 4, 256, 1 << 32, u64::MAX] {
+                for run in blocks.into_iter().chain(chains).chain([counts]).chain(tags) {
+                    assert_eq!(number_of(run, &with(3, unloaded), [1, 1, 1]), 1);
+                    assert_eq!(number_of(run, &with(n, unloaded), [1, 1, 1]), 15);
+                }
+            }
+            for set in [0, 1] {
+                let key = with(n, set);
+                for run in blocks {
+                    assert_eq!(number_of(run, &key, [0, 1, 1]), 4);
+                    assert_eq!(number_of(run, &key, [0, block, 1]), 5);
+                    assert_eq!(number_of(run, &key, [0, block, block]), 0);
+                }
+                for run in chains {
+                    assert_eq!(number_of(run, &key, [1, 1, 0]), 6);
+                    assert_eq!(number_of(run, &key, [block, 1, 0]), 4);
+                    assert_eq!(number_of(run, &key, [block, block, 0]), 5);
+                    assert_eq!(number_of(run, &key, [block, block, block]), 0);
+                }
+                assert_eq!(number_of(counts, &key, [1, 1, 0]), 6);
+                assert_eq!(number_of(counts, &key, [block, 1, 0]), 5);
+                assert_eq!(number_of(counts, &key, [block, 1, 1]), 0);
+                for run in tags {
+                    assert_eq!(number_of(run, &key, [7, 1, 7]), if n == 1 { 11 } else { 12 });
+                    assert_eq!(number_of(run, &key, [8, 1, 8]), if n == 1 { 0 } else { 12 });
+                }
+                // expansion: 1, 2, 15, 3
+                let of = |n, l, bytes, set| Key { n, l, bytes }.expand(&store, set).map_or_else(Error::number, |_| 0);
+                let (n, key) = (n as usize, vec![7; 8 * n as usize * 2]);
+                assert_eq!((of(3, 9, &key[1..], 2), of(n, 9, &key[1..], 2)), (1, 2));
+                assert_eq!((of(n, 2, &key[1..], 2), of(n, 2, &key[1..], set), of(n, 2, &key, set)), (15, 3, 0));
+            }
+        }
+    }
+
     #[test]
     fn debug_hides_the_key() {
+        let store = store_with_own();
+        let working = Key { n: 1, l: 2, bytes: &[0xAB; 16] }.expand(&store, 1).unwrap();
+        assert_eq!(format!("{working:?}"), "WorkingKey { n: 1, set: 1, words not shown }");
+        assert_eq!(format!("{store:?}"), "Store { taken: 4 and 4, sets not shown }");
         let shown = format!("{:?}", Key { n: 1, l: 2, bytes: &[0xAB; 16] });
         assert_eq!(shown, "Key { n: 1, l: 2, bytes: 16 not shown }");
         let shown = format!("{:?}", TagKey { l: 2, bytes: &[0xAB; 16] });

@@ -1,5 +1,6 @@
-//! The archivists' vectors (tests/archivists/vectors.json of the repository), all blocks, runs and tags, through the crate.
-use labyrinth::{Key, Start, TagKey};
+//! The archivists' vectors (tests/archivists/vectors.json of the repository), all blocks, runs and tags, through the crate; and the page with
+//! tables of an archive's own that the paper for the successor has, which the archivists' program sealed.
+use labyrinth::{Key, Start, Store, TagKey};
 use std::collections::HashMap;
 
 struct Vector(HashMap<String, String>);
@@ -102,5 +103,35 @@ fn tags() {
         }
         let longer = [msg.as_slice(), &[0]].concat();
         assert_eq!(key.cmac_verify(&longer, &tag), Ok(false));
+    }
+}
+
+// A block of docs/OPENING-A-PAGE.md: names, and what they say, lines of one name joined.
+fn block(name: &str) -> Vector {
+    let path = concat!(env!("CARGO_MANIFEST_DIR"), "/../../docs/OPENING-A-PAGE.md");
+    let text = std::fs::read_to_string(path).unwrap_or_else(|error| panic!("{path}: {error}"));
+    let (_, rest) = text.split_once(&format!("\n```{name}\n")).expect("the block");
+    let mut found = Vector(HashMap::new());
+    for line in rest.split("```").next().expect("its end").lines().filter(|line| !line.is_empty()) {
+        let (name, value) = line.split_once(' ').expect("a name and a value");
+        found.0.entry(name.to_string()).or_default().push_str(&value.replace(' ', ""));
+    }
+    found
+}
+
+#[test]
+fn a_page_with_tables_of_its_own() {
+    let (card, own) = (block("card"), block("card-tables"));
+    let (bytes, start, q) = (card.bytes("key"), card.bytes("start"), card.number("q") as u64);
+    let (substitution, row, sealed) = (own.bytes("subst"), own.bytes("row").try_into().unwrap(), own.bytes("sealed"));
+    let key = Key { n: card.number("n"), l: card.number("l"), bytes: &bytes };
+    let mut store = Store::fresh();
+    for set in [1, 2, 3] {
+        store.load(1, set, &substitution, &row).unwrap();
+        let mut opened = vec![0; sealed.len()];
+        key.expand(&store, set).unwrap().ctr(&store, Start(&start), q, &sealed, &mut opened).unwrap();
+        assert_eq!(opened, b"This page was sealed for you who open it.");
+        key.expand(&store, 0).unwrap().ctr(&store, Start(&start), q, &sealed, &mut opened).unwrap();
+        assert_ne!(opened, b"This page was sealed for you who open it.");
     }
 }

@@ -1,6 +1,6 @@
 -- Set 0 by the constants, a number outside, or what stands in the store.
 -- Assumes nothing.
-use mathlib.Core.Path.{_≡_, sym, _∙_}
+use mathlib.Core.Path.{sym, _∙_}
 use Rattle.sets.proofs.Sets.{setIn-zero, setIn-other, setIn-outside}
 use borrow.Author.Needs.{needs}
 use Rattle.sets.proofs.set_in.Statement.{statement}
