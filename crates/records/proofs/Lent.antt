@@ -8,7 +8,6 @@ use Prim.Native.Nat.{ℕ}
 use lib.Dec.{eqb}
 use lib.ListN.{length}
 use Rattle.forms.specs.Refusals.{Unless, outcome}
-use Rattle.forms.proofs.Refusals.{unless-plain}
 use Rattle.labyrinth.specs.declared.WorkingKey.{WorkingKey}
 use Rattle.labyrinth.specs.Cipher.{Parts, article}
 use Rattle.labyrinth.specs.Refusals.{legal, Legal, underKey}
@@ -17,15 +16,17 @@ use Rattle.sets.specs.declared.Store.{Store}
 use Rattle.sets.specs.Sets.{loaded, Loaded, partsIn}
 use Rattle.sets.proofs.Sets.{loaded-iff, published-answer}
 use Rattle.records.specs.Records.{keyIn, storeIn}
-use Rattle.records.specs.Numbers.{recordsNumber}
 use Rattle.records.specs.Lent.{lentNumber}
 use Rattle.records.proofs.Numbers.{records-plain, records-refused, records-passed}
 
 -- 4 unless both records have their lengths, then 1 unless n is legal, then 15 unless the key's set is loaded, then the operation's own
-pub lent-plain : (store working : List ℕ) (own : ℕ → ℕ) {r : ℕ} → r ≡ lentNumber store working own
-    → Unless ((length store ≡ 1072) × (length working ≡ 272)) (r ≡ 4) (r ≡ underKey (keyIn working .n) (loaded (storeIn store) (keyIn working .set)) (own (keyIn working .n)))
+pub lent-plain : {more : Type 0} (store working : List ℕ) (own : ℕ → ℕ) {r : ℕ} → r ≡ lentNumber store working own → (r ≡ own (keyIn working .n) → more)
+    → Unless ((length store ≡ 1072) × (length working ≡ 272)) (r ≡ 4)
+    (Unless (Legal (keyIn working .n)) (r ≡ 1) (Unless (Loaded (storeIn store) (keyIn working .set)) (r ≡ 15) more))
 unfolding lentNumber
-lent-plain store working own e = records-plain (length store) (length working) _ e
+lent-plain store working own e f =
+    records-plain (length store) (length working) _ e (λ e.
+    under-number (keyIn working .n) (loaded (storeIn store) (keyIn working .set)) (own (keyIn working .n)) e (loaded-iff (storeIn store) (keyIn working .set)) f)
 
 module _ (store working : List ℕ) (own : ℕ → ℕ) (result : Parts → ℕ → List ℕ → List ℕ) (before : List ℕ) where
   -- what is promised
