@@ -84,7 +84,7 @@ pub extern "C" fn labyrinth_expand(
     working: &mut [u8],
 ) -> u8
     ensures number { λ r. ⌜ r ≡ recordsNumber (length (now (store .entry))) (length (now (working .entry))) (underLength n l (loaded (storeIn (now (store .entry))) set) (expandRefusal n l (length (now (key .entry))))) ⌝ }
-    ensures key { λ r. ⌜ now (working .exit) ≡ outcome r (keyBytes (expansion (partsIn (storeIn (now (store .entry))) set .SM) set n l (now (key .entry)) r .key)) (now (working .entry)) ⌝ }
+    ensures key { λ r. ⌜ now (working .exit) ≡ outcome r (keyBytes (expansion (partsIn (storeIn (now (store .entry))) set .SM) set n l (now (key .entry)) 0 .key)) (now (working .entry)) ⌝ }
 {
     if !records::fit(store.len(), working.len()) {
         return 4;

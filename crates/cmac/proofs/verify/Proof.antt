@@ -1,22 +1,18 @@
 -- Set 0 goes its own way; else the checks, and what is prepared of the set gives E by its tables.
 -- Assumes nothing.
-use mathlib.Core.Path.{_≡_, refl, sym, ap, _∙_}
+use mathlib.Core.Path.{_≡_, refl, ap, _∙_}
 use mathlib.Core.Bool.{Bool, false}
-use mathlib.Core.List.{List}
-use Prim.Native.Nat.{ℕ}
 use lib.ListN.{length}
 use borrow.Author.Needs.{needs}
-use Rattle.labyrinth.specs.Cipher.{Parts, article}
 use Rattle.labyrinth.specs.Keys.{E}
 use Rattle.labyrinth.specs.Refusals.{underKey}
 use Rattle.labyrinth.specs.Lent.{lent}
-use Rattle.labyrinth.proofs.Refusals.{under-refused, under-loaded}
+use Rattle.labyrinth.proofs.Refusals.{under-refused}
 use Rattle.sets.specs.Sets.{loaded, partsIn}
-use Rattle.sets.proofs.Sets.{loaded-zero, parts-zero}
 use Rattle.sets.proofs.Lent.{Made, set-made, set-number, set-by-one}
 use Rattle.modes.specs.Refusals.{cmacRefusal}
-use Rattle.modes.proofs.Refusals.{cmac-taken, cmac-one}
-use Rattle.cmac.proofs.Tags.{refused-no, verified-under}
+use Rattle.modes.proofs.Refusals.{cmac-taken}
+use Rattle.cmac.proofs.Tags.{refused-no, verified-under, verified-published}
 use Rattle.cmac.proofs.verify.Statement.{statement}
 use Rattle.cmac.proofs.verify.Tie as tie
 
@@ -26,11 +22,7 @@ verify-published-requires c κs = search needs
 returns : tie.Need-returns
 returns c =
     let a = c .before .before .before .before .before .args in
-    let z = c .before .if1 .taken in
-    c .verify-published .ensures
-    ∙ verified-under (E article (a .k .n) (a .k .words)) (E (partsIn (a .store) (a .k .set)) (a .k .n) (a .k .words)) (a .message .now) (a .tag .now)
-    (sym (under-loaded (a .k .n) (loaded (a .store) (a .k .set)) (cmacRefusal (a .k .n) (length (a .tag .now))) (cmac-one (a .k .n) (length (a .tag .now))) (loaded-zero (a .store) (a .k .set) z)))
-    (λ y. ap (λ (p : Parts). E p (a .k .n) (a .k .words)) (sym (parts-zero (a .store) (a .k .set) z)))
+    c .verify-published .ensures ∙ verified-published (a .store) (a .k .set) (a .k .n) (a .k .words) (a .message .now) (a .tag .now) (c .before .if1 .taken)
 
 is-loaded-requires : tie.Need-is-loaded-requires
 is-loaded-requires c κs = search needs
