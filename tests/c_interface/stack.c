@@ -96,15 +96,31 @@ static void on_stack(void)
         sink = run(there_op, there_call);
 }
 
-static void over_there(int paint)
+static void under(void (*call)(void), int paint)
 {
     memset(painted, paint, STACK);
     if (getcontext(&there) != 0) stop("getcontext");
     there.uc_stack.ss_sp = painted;
     there.uc_stack.ss_size = STACK;
     there.uc_link = &here;
-    makecontext(&there, on_stack, 0);
+    makecontext(&there, call, 0);
     if (swapcontext(&here, &there) != 0) stop("swapcontext");
+}
+
+static void over_there(int paint) { under(on_stack, paint); }
+
+/* From the top of the stack to the lowest byte that lost its paint. */
+size_t stack_under(void (*call)(void))
+{
+    size_t used = 0;
+    for (int paint = 0x5A; paint <= 0xA5; paint += 0xA5 - 0x5A) {
+        under(call, paint);
+        uint8_t *lowest = painted;
+        while (*lowest == paint) lowest++;
+        if (lowest == painted) wrong("the painted stack is too small");
+        if ((size_t)(painted + STACK - lowest) > used) used = (size_t)(painted + STACK - lowest);
+    }
+    return used;
 }
 
 static size_t stack_of(const struct op *op, const struct call *c, mix_fn *mix)
