@@ -1,15 +1,21 @@
 /* The block cipher Labyrinth, and over it CBC and CTR of NIST SP 800-38A and the tag of SP 800-38B (CMAC). Each function that takes a key
- * expands it, does one operation and keeps nothing; two mix a word, two make a row, and one judges a row. n is 1, 2 or 4: a block has 16n
- * bytes. l is 2, 3 or 4: a key has 8nl bytes. Tags are at n = 1.
+ * expands it, does one operation and keeps nothing; two mix a word, two make a row, and one judges a row. Those whose names begin with
+ * labyrinth_key_ take a working key, expanded before by labyrinth_expand, and a store of substitutions and rows. n is 1, 2 or 4: a block has
+ * 16n bytes. l is 2, 3 or 4: a key has 8nl bytes. Tags are at n = 1.
  *
  * Returned is the number of documents 01 and 02: 0 if it was done, else the first of these that applies, and then dst, or the tag to be
- * made, holds what it held before:
+ * made, holds what it held before, and so do a store and a working key:
+ *   4  a lent store isn't 1072 bytes, or a lent working key isn't 272 (here the number is our choice)
  *   1  n isn't 1, 2 or 4
  *   2  l isn't 2, 3 or 4
+ *  15  the store has no such set, or it isn't loaded; there is no such publisher
+ *  12  n isn't 1 (a tag under a working key)
  *   3  the key isn't 8nl bytes
  *   6  the start block isn't 16n bytes
  *   4  the source isn't 16n bytes (a block), or no multiple of that (CBC); a row isn't 8 bytes (here the number is our choice)
+ *  14  the substitution isn't 256 different bytes
  *  13  the row's eight coefficients XOR to zero (a product takes any rows, and any row is judged)
+ *  16  someone holds the set, the loader included
  *   5  the destination isn't 16n bytes (a block), or isn't as long as the source (CBC, CTR), or isn't 8 bytes (a row)
  *  11  the tag isn't 8 to 16 bytes
  *
@@ -17,13 +23,13 @@
  * no as for a yes. So does judging a row. Look at *yes.
  *
  * What the caller owes; what is proved of these functions holds only then:
- *   - Each pointer is valid for its length: key, start, src, msg, row, g, h and the tag to be verified for reading, dst and the tag to be
- *     made for writing. Any alignment will do. NULL only with length 0: such a pointer is never followed. yes points to one byte for
- *     writing, out and row_judge's word to a uint64_t for writing, aligned as a uint64_t is; none of these is ever NULL.
- *   - dst, the tag to be made, yes, out and row_judge's word overlap nothing else of their call; what is only read may overlap. So nothing
- *     is sealed or opened in place, and no product or inverse put in the place of a row that it is made from.
- *   - While a call runs nobody else writes to its buffers or reads dst, the tag to be made, yes, out or row_judge's word, which may hold
- *     other bytes then than in the end.
+ *   - Each pointer is valid for its length: key, start, src, msg, row, g, h, substitution, a const store, a const working key and the tag to
+ *     be verified for reading, dst, the tag to be made, and a store or a working key that isn't const for writing. Any alignment will do.
+ *     NULL only with length 0: such a pointer is never followed. yes points to one byte for writing, out and row_judge's word to a uint64_t
+ *     for writing, aligned as a uint64_t is; none of these is ever NULL.
+ *   - What is written overlaps nothing else of its call; what is only read may overlap. So nothing is sealed or opened in place, and no
+ *     product or inverse put in the place of a row that it is made from.
+ *   - While a call runs nobody else writes to its buffers or reads those that it writes, which may hold other bytes then than in the end.
  *   - The stack has LABYRINTH_STACK bytes left.
  *
  * The calls are reentrant, also in threads: there is no heap and no state. The archive has no writable data and refers to no symbols but
@@ -70,6 +76,42 @@ uint8_t labyrinth_ctr(size_t n, size_t l, const uint8_t *key, size_t key_len, co
  * kept where it could be altered belongs to the message. */
 uint8_t labyrinth_cmac(size_t l, const uint8_t *key, size_t key_len, const uint8_t *msg, size_t msg_len, uint8_t *tag, size_t tag_len);
 uint8_t labyrinth_cmac_verify(size_t l, const uint8_t *key, size_t key_len, const uint8_t *msg, size_t msg_len, const uint8_t *tag, size_t tag_len, uint8_t *yes);
+
+/* Two publishers, 0 and 1, share a store of sets 0 to 3, each a substitution and a row, and a working key names the set that it is used with.
+ * Both are bytes that the caller keeps and lends. A number in them is 8 bytes, the least first, and every value is taken; so a record may
+ * be made by hand.
+ *   store        1072 bytes: sets 0 to 3, each a substitution (256) and a row (8); then what publisher 0 has taken (8) and what publisher 1
+ *                has (8): a set's number, or 4 or more for none
+ *   working key  272 bytes: n (8), set (8), words 0 to 31 (8 each)
+ *
+ * Set 0 is the published one, whatever stands at its place in a store, loaded and held for good. Another set is loaded exactly if its
+ * substitution is 256 different bytes and its row's coefficients don't XOR to zero; it is held if a publisher has taken it. To name a set
+ * one need not hold it.
+ *
+ * labyrinth_store_fresh writes a store with only set 0 loaded and none taken. labyrinth_store_load puts a substitution and a row in a set's
+ * place, and labyrinth_store_take has a publisher take a set, and so drop the one taken before; each gives 15 first, and loading then 14, 13
+ * and 16. A row that isn't 8 bytes is 4, right after the store's length. */
+uint8_t labyrinth_store_fresh(uint8_t *store, size_t store_len);
+uint8_t labyrinth_store_load(uint8_t *store, size_t store_len, uint64_t publisher, uint64_t set, const uint8_t *substitution, size_t substitution_len, const uint8_t *row, size_t row_len);
+uint8_t labyrinth_store_take(uint8_t *store, size_t store_len, uint64_t publisher, uint64_t set);
+
+/* The working key of a key, by a set. With set 0 it is the key that the functions above expand. The store is only read, and is looked into
+ * only for another set than 0. */
+uint8_t labyrinth_expand(const uint8_t *store, size_t store_len, uint64_t n, uint64_t l, uint64_t set, const uint8_t *key, size_t key_len, uint8_t *working, size_t working_len);
+
+/* Blocks, runs and tags under a working key, by the set that it names and what the store holds there now. With a working key of set 0 they
+ * give what the functions above give. A page comes back by any store that has the set loaded with the substitution and the row that
+ * expanding and sealing had. 15 comes right after 1, also where there is no byte to seal. By the matrix a block comes out the same, only
+ * slower. labyrinth_key_cmac_verify sets *yes at every call, as labyrinth_cmac_verify does. */
+uint8_t labyrinth_key_encipher(const uint8_t *store, size_t store_len, const uint8_t *working, size_t working_len, const uint8_t *src, size_t src_len, uint8_t *dst, size_t dst_len);
+uint8_t labyrinth_key_decipher(const uint8_t *store, size_t store_len, const uint8_t *working, size_t working_len, const uint8_t *src, size_t src_len, uint8_t *dst, size_t dst_len);
+uint8_t labyrinth_key_encipher_by_matrix(const uint8_t *store, size_t store_len, const uint8_t *working, size_t working_len, const uint8_t *src, size_t src_len, uint8_t *dst, size_t dst_len);
+uint8_t labyrinth_key_decipher_by_matrix(const uint8_t *store, size_t store_len, const uint8_t *working, size_t working_len, const uint8_t *src, size_t src_len, uint8_t *dst, size_t dst_len);
+uint8_t labyrinth_key_cbc_seal(const uint8_t *store, size_t store_len, const uint8_t *working, size_t working_len, const uint8_t *start, size_t start_len, const uint8_t *src, size_t src_len, uint8_t *dst, size_t dst_len);
+uint8_t labyrinth_key_cbc_open(const uint8_t *store, size_t store_len, const uint8_t *working, size_t working_len, const uint8_t *start, size_t start_len, const uint8_t *src, size_t src_len, uint8_t *dst, size_t dst_len);
+uint8_t labyrinth_key_ctr(const uint8_t *store, size_t store_len, const uint8_t *working, size_t working_len, const uint8_t *start, size_t start_len, uint64_t q, const uint8_t *src, size_t src_len, uint8_t *dst, size_t dst_len);
+uint8_t labyrinth_key_cmac(const uint8_t *store, size_t store_len, const uint8_t *working, size_t working_len, const uint8_t *msg, size_t msg_len, uint8_t *tag, size_t tag_len);
+uint8_t labyrinth_key_cmac_verify(const uint8_t *store, size_t store_len, const uint8_t *working, size_t working_len, const uint8_t *msg, size_t msg_len, const uint8_t *tag, size_t tag_len, uint8_t *yes);
 
 /* The article's mixing of a word. */
 uint64_t labyrinth_mix(uint64_t word);

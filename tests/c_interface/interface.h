@@ -106,24 +106,20 @@ long verdicts(const struct op *ops, size_t count);
 extern volatile uint8_t sink;
 
 void paint(void);
-size_t stack_under(void (*call)(void));
+size_t stack_by(void (*act)(void));
 size_t stack(const struct op *ops, int large, size_t *each);
 
 /* ---- memory.c */
 
 enum { PLACE_END, PLACE_START, PLACE_ANY };
-extern size_t lent_size;
-extern uint8_t *lent[BUFFERS];
 
 void lend(void);
 int memory(const struct op *ops, enum kind kind, uint64_t seed, long cases, int place);
 
 /* ---- stores.c */
 
-enum { SET_OPS = 13 };
-
-long stores(uint64_t seed, long cases, size_t *each, int *trials);
-const char *store_name(int o);
+long records(uint64_t seed, int large, size_t *most);
+int try_record_stubs(uint64_t seed);
 
 /* ---- stubs.c */
 

@@ -1,5 +1,5 @@
 /* The C interface tried: every number in its order, NULL, runs and tags over labyrinth_encipher, mixing by a row, products and inverses of
- * rows, verdicts on rows, stack use, and lent memory; the store and keys that name a set; and that this program notices what it is to notice, by stubs that stand in the
+ * rows, verdicts on rows, stores and working keys, stack use, and lent memory; and that this program notices what it is to notice, by stubs that stand in the
  * library's place and do wrong. tests/c_interface.sh builds and runs it.
  *
  *     c_interface [--long] [--seed N]      the seed is for the lent memory; without it one is taken from the clock, and printed */
@@ -78,24 +78,21 @@ int main(int count, char **words)
     runs(300); /* over 8 KiB at n = 2 and 4, where the eight tables are used */
     runs(511);
     long bits = all_tags(library), made = row_laws(library, 4096), judged = verdicts(library, 100);
-    size_t each[OPS + 1], most = stack(library, large, each);
+    size_t each[OPS + 1], most = stack(library, large, each), of_records;
     long cases = large ? 500000 : 10000;
     for (int place = PLACE_END; place <= PLACE_ANY; place++) {
         int died = memory(library, KINDS, seed + (uint64_t)place, cases, place);
         if (died != 0) wrong("lent memory, seed %" PRIu64 ", place %d: %s", seed, place, died > 0 ? strsignal(died) : "see above");
     }
-    int noticed = try_stubs(seed), misdeeds;
-    size_t each_store[SET_OPS];
-    long lent_stores = stores(seed, large ? 100000 : 4000, each_store, &misdeeds);
-    for (int o = 0; o < SET_OPS; o++)
-        if (each_store[o] > most) most = each_store[o];
+    long lent = records(seed, large, &of_records);
+    if (of_records > most) most = of_records;
+    int noticed = try_stubs(seed) + try_record_stubs(seed);
     if (large) {
-        for (int o = 0; o < SET_OPS; o++) printf("c_interface: %s: %zu bytes of stack\n", store_name(o), each_store[o]);
         for (int o = 0; o < OPS; o++) printf("c_interface: %s: %zu bytes of stack\n", library[o].name, each[o]);
         printf("c_interface: labyrinth_mix: %zu bytes of stack\n", each[OPS]);
     }
     printf("c_interface: %ld numbers, %ld bits of tags altered, %ld products and inverses, %ld verdicts, %zu bytes of stack of the "
-           "header's %d, %ld calls on lent memory (seed %" PRIu64 "), %d trials of stubs, %ld calls and %d trials of the store's functions: %ld wrong\n",
-           calls, bits, made, judged, most, LABYRINTH_STACK, 3 * cases, seed, noticed, lent_stores, misdeeds, failures);
+           "header's %d, %ld calls on lent memory, %ld of stores and working keys (seed %" PRIu64 "), %d trials of stubs: %ld wrong\n",
+           calls, bits, made, judged, most, LABYRINTH_STACK, 3 * cases, lent, seed, noticed, failures);
     return failures != 0;
 }

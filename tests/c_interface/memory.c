@@ -9,8 +9,8 @@
 #include "interface.h"
 
 enum { LENT_PAGES = 5 };
-size_t lent_size;
-uint8_t *lent[BUFFERS];
+static size_t lent_size;
+static uint8_t *lent[BUFFERS];
 
 void lend(void)
 {

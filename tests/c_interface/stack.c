@@ -12,6 +12,7 @@ static ucontext_t here, there;
 static const struct op *there_op;
 static const struct call *there_call;
 static mix_fn *there_mix;
+static void (*there_act)(void);
 static uintptr_t top;
 
 void paint(void)
@@ -90,36 +91,49 @@ volatile uint8_t sink;
 
 static void on_stack(void)
 {
-    if (there_mix)
+    if (there_act)
+        there_act();
+    else if (there_mix)
         sink = (uint8_t)there_mix(1);
     else
         sink = run(there_op, there_call);
 }
 
-static void under(void (*call)(void), int paint)
+static void over_there(int paint)
 {
     memset(painted, paint, STACK);
     if (getcontext(&there) != 0) stop("getcontext");
     there.uc_stack.ss_sp = painted;
     there.uc_stack.ss_size = STACK;
     there.uc_link = &here;
-    makecontext(&there, call, 0);
+    makecontext(&there, on_stack, 0);
     if (swapcontext(&here, &there) != 0) stop("swapcontext");
 }
 
-static void over_there(int paint) { under(on_stack, paint); }
-
-/* From the top of the stack to the lowest byte that lost its paint. */
-size_t stack_under(void (*call)(void))
+/* By two paints, the lowest byte that lost its own, from top. */
+static size_t used_from_top(void)
 {
     size_t used = 0;
     for (int paint = 0x5A; paint <= 0xA5; paint += 0xA5 - 0x5A) {
-        under(call, paint);
+        over_there(paint);
         uint8_t *lowest = painted;
         while (*lowest == paint) lowest++;
         if (lowest == painted) wrong("the painted stack is too small");
-        if ((size_t)(painted + STACK - lowest) > used) used = (size_t)(painted + STACK - lowest);
+        if (top - (uintptr_t)lowest > used) used = top - (uintptr_t)lowest;
     }
+    return used;
+}
+
+static void top_act(void) { NOTE_TOP(); }
+
+/* What act uses, its own frame and that of what it calls by counted too. */
+size_t stack_by(void (*act)(void))
+{
+    there_act = top_act;
+    over_there(0);
+    there_act = act;
+    size_t used = used_from_top();
+    there_act = NULL;
     return used;
 }
 
@@ -129,21 +143,13 @@ static size_t stack_of(const struct op *op, const struct call *c, mix_fn *mix)
                                           {"", CMAC, 0, {.cmac = top_cmac}}, {"", VERIFY, 0, {.verify = top_verify}}, {"", ROW, 0, {.row = top_row}},
                                           {"", PRODUCT, 0, {.product = top_product}}, {"", INVERSE, 0, {.inverse = top_inverse}},
                                           {"", JUDGE, 0, {.judge = top_judge}}};
-    size_t used = 0;
     there_call = c;
     there_op = op ? &tops[op->kind] : NULL;
     there_mix = mix ? top_mix : NULL;
     over_there(0);
     there_op = op;
     there_mix = mix;
-    for (int paint = 0x5A; paint <= 0xA5; paint += 0xA5 - 0x5A) {
-        over_there(paint);
-        uint8_t *lowest = painted;
-        while (*lowest == paint) lowest++;
-        if (lowest == painted) wrong("the painted stack is too small");
-        if (top - (uintptr_t)lowest > used) used = top - (uintptr_t)lowest;
-    }
-    return used;
+    return used_from_top();
 }
 
 /* What a call used; more than the header says is wrong. */

@@ -1,5 +1,6 @@
-/* The store and keys that name a set: numbers by a rule of its own, on lent memory as in memory.c; lengths of 2^32 and more; the stack. What they
- * answer is tests/stores.py's matter, but for a page that comes back. */
+/* Stores and working keys: which number each function gives, over a grid of records, numbers and lengths, so with every pair of refusals at
+ * once; that a refusal leaves all that was lent as it was; stores made by hand; what loading, taking and expanding write, byte for byte;
+ * blocks, runs and tags by any set against the block's own function, and by set 0 against the functions that take a key; lent memory; stack. */
 #include <signal.h>
 #include <sys/mman.h>
 #include <sys/resource.h>
@@ -8,244 +9,589 @@
 
 #include "interface.h"
 
-/* The parts of a call: of loading, START is the substitution and SRC the row; of expanding, SRC is the key and DST the working key; of a tag, SRC
- * is the message, and DST the tag to be made, or *yes with START the tag to be verified. The first three write the store, the others DST. */
-enum part { STORE_PART, WORKING_PART, START_PART, SRC_PART, DST_PART, PARTS };
-enum shape { FRESH, LOAD, TAKE, EXPAND, KEY_BLOCK, KEY_CBC, KEY_CTR, KEY_TAG, KEY_VERIFY };
-enum { STORE_BYTES = 1072, WORKING_BYTES = 272, SET_BYTES = 264, MARKS = 4 * SET_BYTES };
+enum { STORE_LEN = 1072, WORKING_LEN = 272, SET = 264, MARKS = 1056 };
+enum what { FRESH, LOAD, TAKE, EXPAND, ENCIPHER, DECIPHER, BY_MATRIX, BACK_BY_MATRIX, SEAL, OPEN, STREAM, TAG, CHECK, WHATS };
+static const char *const names[WHATS] = {"store_fresh", "store_load", "store_take", "expand", "key_encipher", "key_decipher", "key_encipher_by_matrix",
+                                         "key_decipher_by_matrix", "key_cbc_seal", "key_cbc_open", "key_ctr", "key_cmac", "key_cmac_verify"};
 
-typedef uint8_t key_block_fn(const uint8_t *, size_t, const uint8_t *, size_t, const uint8_t *, size_t, uint8_t *, size_t);
-typedef uint8_t key_cbc_fn(const uint8_t *, size_t, const uint8_t *, size_t, const uint8_t *, size_t, const uint8_t *, size_t, uint8_t *, size_t);
-
-static const struct set_op {
-    const char *name;
-    enum shape shape;
-    union { key_block_fn *block; key_cbc_fn *cbc; } fn;
-    int back; /* the one that undoes it */
-} set_ops[SET_OPS] = {
-    {"labyrinth_store_fresh", FRESH, {0}, -1}, {"labyrinth_store_load", LOAD, {0}, -1}, {"labyrinth_store_take", TAKE, {0}, -1},
-    {"labyrinth_expand", EXPAND, {0}, -1},
-    {"labyrinth_key_encipher", KEY_BLOCK, {.block = labyrinth_key_encipher}, 5},
-    {"labyrinth_key_decipher", KEY_BLOCK, {.block = labyrinth_key_decipher}, 4},
-    {"labyrinth_key_encipher_by_matrix", KEY_BLOCK, {.block = labyrinth_key_encipher_by_matrix}, 5},
-    {"labyrinth_key_decipher_by_matrix", KEY_BLOCK, {.block = labyrinth_key_decipher_by_matrix}, 4},
-    {"labyrinth_key_cbc_seal", KEY_CBC, {.cbc = labyrinth_key_cbc_seal}, 9}, {"labyrinth_key_cbc_open", KEY_CBC, {.cbc = labyrinth_key_cbc_open}, 8},
-    {"labyrinth_key_ctr", KEY_CTR, {0}, 10},
-    {"labyrinth_key_cmac", KEY_TAG, {.block = labyrinth_key_cmac}, -1}, {"labyrinth_key_cmac_verify", KEY_VERIFY, {0}, -1},
+/* FIRST is the substitution, the key, the start block or the tag to be verified; SECOND the row, the source or the message; OUT the
+ * destination, the tag to be made or *yes. a, b and c are publisher and set, or n, l and set, or q. */
+enum lent { STORE, WORKING, FIRST, SECOND, OUT, LENTS };
+struct asked {
+    enum what what;
+    uint64_t a, b, c;
+    uint8_t *at[LENTS];
+    size_t len[LENTS];
 };
 
-struct set_call {
-    const struct set_op *op;
-    uint64_t publisher, set, n, l, q; /* what the call has of these */
-    uint8_t *at[PARTS];
-    size_t len[PARTS];
-};
-
-static enum part written(enum shape shape) { return shape <= TAKE ? STORE_PART : DST_PART; }
-
-static int has_part(enum shape shape, enum part part)
+__attribute__((noinline)) static uint8_t ask_library(const struct asked *q)
 {
-    switch (part) {
-    case STORE_PART: return 1;
-    case WORKING_PART: return shape >= KEY_BLOCK;
-    case START_PART: return shape == LOAD || shape == KEY_CBC || shape == KEY_CTR || shape == KEY_VERIFY;
-    case SRC_PART: return shape != FRESH && shape != TAKE;
-    default: return shape >= EXPAND;
+    uint8_t *const *at = q->at;
+    const size_t *len = q->len;
+#define KEYED at[STORE], len[STORE], at[WORKING], len[WORKING]
+#define BLOCK_OF KEYED, at[SECOND], len[SECOND], at[OUT], len[OUT]
+#define RUN_OF KEYED, at[FIRST], len[FIRST], at[SECOND], len[SECOND], at[OUT], len[OUT]
+    switch (q->what) {
+    case FRESH: return labyrinth_store_fresh(at[STORE], len[STORE]);
+    case LOAD: return labyrinth_store_load(at[STORE], len[STORE], q->a, q->b, at[FIRST], len[FIRST], at[SECOND], len[SECOND]);
+    case TAKE: return labyrinth_store_take(at[STORE], len[STORE], q->a, q->b);
+    case EXPAND: return labyrinth_expand(at[STORE], len[STORE], q->a, q->b, q->c, at[FIRST], len[FIRST], at[WORKING], len[WORKING]);
+    case ENCIPHER: return labyrinth_key_encipher(BLOCK_OF);
+    case DECIPHER: return labyrinth_key_decipher(BLOCK_OF);
+    case BY_MATRIX: return labyrinth_key_encipher_by_matrix(BLOCK_OF);
+    case BACK_BY_MATRIX: return labyrinth_key_decipher_by_matrix(BLOCK_OF);
+    case SEAL: return labyrinth_key_cbc_seal(RUN_OF);
+    case OPEN: return labyrinth_key_cbc_open(RUN_OF);
+    case STREAM: return labyrinth_key_ctr(KEYED, at[FIRST], len[FIRST], q->a, at[SECOND], len[SECOND], at[OUT], len[OUT]);
+    case TAG: return labyrinth_key_cmac(BLOCK_OF);
+    default: return labyrinth_key_cmac_verify(KEYED, at[SECOND], len[SECOND], at[FIRST], len[FIRST], at[OUT]);
     }
 }
 
-/* What the functions do wrong, to show that it is noticed; HONEST but there. */
-static struct { enum { HONEST, PAST, BEFORE, WRITES, TOUCHES, SWAPS, CUTS, ALTERS, DEEP } what; enum part part; } misdeed;
+static uint8_t (*ask)(const struct asked *) = ask_library; /* or a stub in its place */
 
-#define AT(part) c->at[part##_PART], len[part##_PART]
-static __attribute__((noinline)) uint8_t set_run(const struct set_call *c)
+static int is_block(enum what what) { return what >= ENCIPHER && what <= BACK_BY_MATRIX; }
+
+static int is_run(enum what what) { return what >= SEAL && what <= STREAM; }
+
+static int takes(enum what what, enum lent b)
 {
-    size_t len[PARTS];
-    for (int p = 0; p < PARTS; p++) len[p] = misdeed.what == CUTS ? c->len[p] % far : c->len[p];
-    switch (c->op->shape) {
-    case FRESH: return labyrinth_store_fresh(AT(STORE));
-    case LOAD: return labyrinth_store_load(AT(STORE), c->publisher, c->set, AT(START), AT(SRC));
-    case TAKE: return labyrinth_store_take(AT(STORE), c->publisher, c->set);
-    case EXPAND: return labyrinth_expand(AT(STORE), c->n, c->l, c->set, AT(SRC), AT(DST));
-    case KEY_CBC: return c->op->fn.cbc(AT(STORE), AT(WORKING), AT(START), AT(SRC), AT(DST));
-    case KEY_CTR: return labyrinth_key_ctr(AT(STORE), AT(WORKING), AT(START), c->q, AT(SRC), AT(DST));
-    case KEY_VERIFY: return labyrinth_key_cmac_verify(AT(STORE), AT(WORKING), AT(SRC), AT(START), c->at[DST_PART]);
-    default: return c->op->fn.block(AT(STORE), AT(WORKING), AT(SRC), AT(DST));
-    }
+    if (b == STORE) return 1;
+    if (b == WORKING) return what >= EXPAND;
+    if (b == FIRST) return what == LOAD || what == EXPAND || is_run(what) || what == CHECK;
+    return what == LOAD ? b == SECOND : what >= ENCIPHER;
 }
 
-static uint8_t misdone(const struct set_call *c)
+static enum lent written_by(enum what what) { return what <= TAKE ? STORE : what == EXPAND ? WORKING : OUT; }
+
+/* ---- the papers' numbers */
+
+static uint64_t number_at(const uint8_t *at)
 {
-    uint8_t number = set_run(c);
-    volatile uint8_t *at = c->at[misdeed.part];
-    size_t len = c->len[misdeed.part];
-    enum part out = written(c->op->shape);
-    switch (misdeed.what) {
-    case PAST: if (at) sink = at[len]; break;
-    case BEFORE: if (at) sink = at[-1]; break;
-    case WRITES: if (len) at[0] = at[0]; break;
-    case TOUCHES: if (number && c->len[out] && c->op->shape != KEY_VERIFY) c->at[out][c->len[out] - 1] ^= 1; break;
-    case SWAPS: if (number == 15 || number == 4) number = (uint8_t)(19 - number); break;
-    case ALTERS: if (number == 0 && c->len[out]) c->at[out][0] ^= 2; break;
-    default: break;
-    }
+    uint64_t number = 0;
+    for (int i = 7; i >= 0; i--) number = number << 8 | at[i];
     return number;
 }
 
-/* ---- the number, by the papers' order */
-
-static uint64_t word_at(const uint8_t *at)
+static void put_number(uint8_t *at, uint64_t number)
 {
-    uint64_t word = 0;
-    for (int i = 8; i-- > 0;) word = word << 8 | at[i];
-    return word;
+    for (int i = 0; i < 8; i++) at[i] = (uint8_t)(number >> 8 * i);
 }
 
-static int different(const uint8_t *bytes)
+static int different(const uint8_t *substitution)
 {
     uint8_t seen[256] = {0};
     for (int i = 0; i < 256; i++)
-        if (seen[bytes[i]]++) return 0;
+        if (seen[substitution[i]]++) return 0;
     return 1;
 }
 
 static int is_loaded(const uint8_t *store, uint64_t set)
 {
-    if (set == 0) return 1;
-    return set <= 3 && different(store + SET_BYTES * set) && row_sum(store + SET_BYTES * set + 256, 8) != 0;
+    return set == 0 || (set < 4 && different(store + SET * set) && row_sum(store + SET * set + 256, 8) != 0);
 }
 
-static int legal(uint64_t n) { return n == 1 || n == 2 || n == 4; }
-
-static uint8_t set_number(const struct set_call *c)
+static int is_held(const uint8_t *store, uint64_t set)
 {
-    const uint8_t *store = c->at[STORE_PART];
-    enum shape shape = c->op->shape;
-    const size_t *len = c->len;
-    if (len[STORE_PART] != STORE_BYTES) return 4;
-    if (shape == FRESH) return 0;
-    if (shape == LOAD) {
-        if (len[SRC_PART] != 8) return 4;
-        if (c->publisher > 1 || c->set > 3) return 15;
-        if (len[START_PART] != 256 || !different(c->at[START_PART])) return 14;
-        if (row_sum(c->at[SRC_PART], 8) == 0) return 13;
-        return c->set == 0 || word_at(store + MARKS) == c->set || word_at(store + MARKS + 8) == c->set ? 16 : 0;
-    }
-    if (shape == TAKE) return c->publisher > 1 || !is_loaded(store, c->set) ? 15 : 0;
-    if (shape == EXPAND) {
-        if (len[DST_PART] != WORKING_BYTES) return 4;
-        if (!legal(c->n)) return 1;
-        if (c->l < 2 || c->l > 4) return 2;
-        if (!is_loaded(store, c->set)) return 15;
-        return len[SRC_PART] != 8 * c->n * c->l ? 3 : 0;
-    }
-    if (len[WORKING_PART] != WORKING_BYTES) return 4;
-    uint64_t n = word_at(c->at[WORKING_PART]);
-    if (!legal(n)) return 1;
-    if (!is_loaded(store, word_at(c->at[WORKING_PART] + 8))) return 15;
-    if (shape == KEY_TAG || shape == KEY_VERIFY) {
-        size_t tag = len[shape == KEY_TAG ? DST_PART : START_PART];
-        return n != 1 ? 12 : tag < 8 || tag > 16 ? 11 : 0;
-    }
-    if (shape != KEY_BLOCK && len[START_PART] != 16 * n) return 6;
-    if (shape == KEY_BLOCK ? len[SRC_PART] != 16 * n : shape == KEY_CBC && len[SRC_PART] % (16 * n) != 0) return 4;
-    return len[DST_PART] != len[SRC_PART] ? 5 : 0;
+    return set == 0 || number_at(store + MARKS) == set || number_at(store + MARKS + 8) == set;
 }
 
-/* ---- any call, mostly one that fits */
-
-static void put_word(uint8_t *at, uint64_t word)
+static uint8_t expected_number(const struct asked *q)
 {
-    for (int i = 0; i < 8; i++) at[i] = (uint8_t)(word >> 8 * i);
-}
-
-static void some_set(uint8_t *at)
-{
-    for (int i = 0; i < 256; i++) at[i] = (uint8_t)i;
-    for (size_t i = 255; i > 0; i--) {
-        size_t j = below(i + 1);
-        uint8_t held = at[i];
-        at[i] = at[j];
-        at[j] = held;
+    const size_t *len = q->len;
+    const uint8_t *store = q->at[STORE];
+    if (len[STORE] != STORE_LEN || (takes(q->what, WORKING) && len[WORKING] != WORKING_LEN)) return 4;
+    if (q->what == FRESH) return 0;
+    if (q->what == LOAD && len[SECOND] != 8) return 4;
+    if (q->what <= TAKE && (q->a > 1 || q->b > 3)) return 15;
+    if (q->what == TAKE) return is_loaded(store, q->b) ? 0 : 15;
+    if (q->what == LOAD) {
+        if (len[FIRST] != 256 || !different(q->at[FIRST])) return 14;
+        if (row_sum(q->at[SECOND], 8) == 0) return 13;
+        return is_held(store, q->b) ? 16 : 0;
     }
-    fill(at + 256, 8);
-    if (row_sum(at + 256, 8) == 0) at[256] ^= 1;
-    if (below(6) == 0) at[below(256)] ^= 1;
-    if (below(6) == 0) at[256] ^= row_sum(at + 256, 8);
+    int expands = q->what == EXPAND;
+    uint64_t n = expands ? q->a : number_at(q->at[WORKING]), l = q->b, set = expands ? q->c : number_at(q->at[WORKING] + 8);
+    if (n != 1 && n != 2 && n != 4) return 1;
+    if (expands && l != 2 && l != 3 && l != 4) return 2;
+    if (!is_loaded(store, set)) return 15;
+    if (expands) return len[FIRST] == 8 * n * l ? 0 : 3;
+    if (q->what >= TAG && n != 1) return 12;
+    size_t tag = len[q->what == TAG ? OUT : FIRST];
+    if (q->what >= TAG) return tag < 8 || tag > 16 ? 11 : 0;
+    if (is_run(q->what) && len[FIRST] != 16 * n) return 6;
+    if (is_block(q->what) && len[SECOND] != 16 * n) return 4;
+    if ((q->what == SEAL || q->what == OPEN) && len[SECOND] % (16 * n) != 0) return 4;
+    return len[OUT] != len[SECOND] ? 5 : 0;
 }
 
-static uint64_t some_number(uint64_t right) { return below(10) ? right : below(2) ? right + ((uint64_t)1 << 32) : below(6) ? below(9) : UINT64_MAX; }
+/* ---- one call, and all that it may leave changed */
 
-static void set_case(int place)
+enum { ROOM = 2048, MARGIN = 64 };
+static uint8_t space[LENTS][ROOM + 2 * MARGIN], kept[LENTS][ROOM + 2 * MARGIN], first_fresh[STORE_LEN];
+static long asked_calls, seen[WHATS][17];
+
+/* Whether a call that was done wrote what it is to write; blocks, runs and tags are looked at elsewhere. */
+static int changed_right(const struct asked *q, const uint8_t *store)
 {
-    const struct set_op *op = &set_ops[below(SET_OPS)];
-    enum shape shape = op->shape;
-    struct set_call c = {.op = op, .publisher = some_number(below(2)), .set = some_number(below(4)), .q = next()};
-    size_t n = shape == KEY_TAG || shape == KEY_VERIFY ? 1 : (size_t)1 << below(3), l = 2 + below(3), length = below(5) ? below(200) : below(2500);
-    c.n = some_number(n);
-    c.l = some_number(l);
-    c.len[STORE_PART] = STORE_BYTES;
-    c.len[WORKING_PART] = has_part(shape, WORKING_PART) ? WORKING_BYTES : 0;
-    c.len[START_PART] = !has_part(shape, START_PART) ? 0 : shape == LOAD ? 256 : shape == KEY_VERIFY ? 8 + below(9) : 16 * n;
-    c.len[SRC_PART] = !has_part(shape, SRC_PART) ? 0 : shape == LOAD ? 8 : shape == EXPAND ? 8 * n * l : shape == KEY_BLOCK ? 16 * n : length;
-    if (shape == KEY_CBC) c.len[SRC_PART] -= c.len[SRC_PART] % (16 * n);
-    c.len[DST_PART] = !has_part(shape, DST_PART) ? 0 : shape == EXPAND ? WORKING_BYTES : shape == KEY_TAG ? 8 + below(9) : shape == KEY_VERIFY ? 1 : c.len[SRC_PART];
-    enum part spoilt = (enum part)below(4 * PARTS); /* now and then a length does not fit */
-    if (spoilt < PARTS && has_part(shape, spoilt) && !(spoilt == DST_PART && shape == KEY_VERIFY)) c.len[spoilt] = below(2) ? below(300) : c.len[spoilt] + 1 - 2 * below(2);
-    if (c.len[spoilt < PARTS ? spoilt : 0] > lent_size) c.len[spoilt] = 0;
-    for (int p = 0; p < PARTS; p++) {
+    uint8_t after[STORE_LEN];
+    if (q->what == EXPAND) {
+        uint64_t n = number_at(q->at[WORKING]);
+        int right = n == q->a && number_at(q->at[WORKING] + 8) == q->c;
+        for (uint64_t i = 8 * n; i < 32; i++) right = right && number_at(q->at[WORKING] + 16 + 8 * i) == 0;
+        return right;
+    }
+    if (q->what > TAKE) return 1;
+    memcpy(after, q->what == FRESH ? first_fresh : store, STORE_LEN);
+    if (q->what == LOAD) {
+        memcpy(after + SET * q->b, q->at[FIRST], 256);
+        memcpy(after + SET * q->b + 256, q->at[SECOND], 8);
+    }
+    if (q->what == TAKE) put_number(after + MARKS + 8 * q->a, q->b);
+    return memcmp(q->at[STORE], after, STORE_LEN) == 0;
+}
+
+/* The call's buffers are in space, those of no bytes NULL. */
+static void one_call(struct asked *q)
+{
+    for (int b = 0; b < LENTS; b++) q->at[b] = q->len[b] && takes(q->what, (enum lent)b) ? space[b] + MARGIN : NULL;
+    if (q->what == CHECK) space[OUT][MARGIN] = asked_calls & 1 ? 1 : 0xAA;
+    memcpy(kept, space, sizeof kept);
+    uint8_t expected = expected_number(q), number = ask(q);
+    asked_calls++;
+    seen[q->what][expected]++;
+    if (number != expected)
+        wrong("%s: lengths %zu %zu %zu %zu %zu: %d, not %d", names[q->what], q->len[STORE], q->len[WORKING], q->len[FIRST], q->len[SECOND], q->len[OUT], number,
+              expected);
+    if (q->what == CHECK && expected != 0 && space[OUT][MARGIN] != 0) wrong("%s: a refusal, and *yes is %d", names[q->what], space[OUT][MARGIN]);
+    for (int b = 0; b < LENTS; b++) {
+        int may = (enum lent)b == written_by(q->what) && (expected == 0 || q->what == CHECK);
+        size_t to = MARGIN + (may ? q->len[b] : 0);
+        if (memcmp(space[b], kept[b], MARGIN) != 0 || memcmp(space[b] + to, kept[b] + to, sizeof kept[b] - to) != 0)
+            wrong("%s: number %d, and bytes written to buffer %d", names[q->what], number, b);
+    }
+    if (expected == 0 && number == 0 && !changed_right(q, kept[STORE] + MARGIN)) wrong("%s: other bytes than it is to write", names[q->what]);
+}
+
+/* ---- stores and working keys made by hand */
+
+/* Any 256 different bytes. */
+static void shuffle(uint8_t *substitution)
+{
+    for (int i = 0; i < 256; i++) {
+        size_t j = below((size_t)i + 1);
+        substitution[i] = substitution[j];
+        substitution[j] = (uint8_t)i;
+    }
+}
+
+static void any_row(uint8_t *row)
+{
+    do fill(row, 8);
+    while (row_sum(row, 8) == 0);
+}
+
+/* Set 0 junk; set 1 good; set 2 with two equal bytes, in a way that changes by turns; set 3 with a row that XORs to zero. */
+static void by_hand(uint8_t *store, uint64_t mark0, uint64_t mark1)
+{
+    fill(store, STORE_LEN);
+    for (int i = 1; i < 4; i++) {
+        shuffle(store + SET * i);
+        any_row(store + SET * i + 256);
+    }
+    size_t one = below(256), other = (one + 1 + below(255)) % 256;
+    store[SET * 2 + one] = store[SET * 2 + other];
+    store[SET * 3 + 256 + below(8)] ^= row_sum(store + SET * 3 + 256, 8);
+    put_number(store + MARKS, mark0);
+    put_number(store + MARKS + 8, mark1);
+}
+
+static const uint64_t ns[] = {1, 2, 4, 0, 3, 5, ((uint64_t)1 << 32) + 1, UINT64_MAX}, ls[] = {2, 3, 4, 0, 1, 5, ((uint64_t)1 << 32) + 2, UINT64_MAX},
+                      sets[] = {0, 1, 2, 3, 4, 5, 255, 256, 257, (uint64_t)1 << 32, ((uint64_t)1 << 32) + 1, UINT64_MAX},
+                      publishers[] = {0, 1, 2, 255, 256, (uint64_t)1 << 32, UINT64_MAX};
+#define COUNT(list) ((int)(sizeof(list) / sizeof *(list)))
+
+static size_t record_lengths[2][5] = {{STORE_LEN, 0, STORE_LEN - 1, STORE_LEN + 1, SET}, {WORKING_LEN, 0, WORKING_LEN - 1, WORKING_LEN + 1, 16}};
+
+/* Loading and taking: each publisher, set, mark, substitution, row and length with each. */
+static void store_grid(void)
+{
+    static const uint64_t marks[][2] = {{4, 4}, {1, 4}, {4, 2}, {3, 3}, {0, 0}, {UINT64_MAX, 5}, {((uint64_t)1 << 32) + 1, 257}};
+    for (int s = 0; s < 5; s++)
+        for (int m = 0; m < COUNT(marks); m++)
+            for (int p = 0; p < COUNT(publishers); p++)
+                for (int i = 0; i < COUNT(sets) && !enough(); i++) {
+                    struct asked q = {.a = publishers[p], .b = sets[i], .len = {record_lengths[0][s]}};
+                    by_hand(space[STORE] + MARGIN, marks[m][0], marks[m][1]);
+                    q.what = TAKE;
+                    one_call(&q);
+                    q.what = FRESH;
+                    if (p == 0 && i == 0) one_call(&q);
+                    for (int way = 0; way < 5 * 4; way++) {
+                        static const size_t substitutions[] = {256, 256, 255, 257, 0}, rows[] = {8, 8, 7, 0};
+                        by_hand(space[STORE] + MARGIN, marks[m][0], marks[m][1]);
+                        shuffle(space[FIRST] + MARGIN);
+                        space[FIRST][MARGIN + 256] = 1;
+                        any_row(space[SECOND] + MARGIN);
+                        if (way % 5 == 1) space[FIRST][MARGIN + 255] = space[FIRST][MARGIN + below(255)];
+                        if (way / 5 == 1) space[SECOND][MARGIN + 7] ^= row_sum(space[SECOND] + MARGIN, 8);
+                        q.what = LOAD;
+                        q.len[FIRST] = substitutions[way % 5];
+                        q.len[SECOND] = rows[way / 5];
+                        one_call(&q);
+                    }
+                }
+}
+
+/* The rest: each record's length, n, l, set and other length with each. */
+static void key_grid(void)
+{
+    for (int what = EXPAND; what < WHATS; what++)
+        for (int s = 0; s < 5 * 5; s++)
+            for (int i = 0; i < COUNT(ns); i++)
+                for (int j = 0; j < COUNT(sets); j++)
+                    for (int k = 0; k < 4 * 5 * 4 && !enough(); k++) {
+                        uint64_t n = ns[i] == 2 || ns[i] == 4 ? ns[i] : 1;
+                        size_t near[4] = {16 * n, 16 * n - 1, 0, 16 * n + 1}, first = near[k % 4], second[5] = {16 * n, 16 * n + 1, 0, 48 * n, 48 * n + 7};
+                        struct asked q = {.what = (enum what)what, .a = ns[i], .c = sets[j], .len = {record_lengths[0][s % 5], record_lengths[1][s / 5]}};
+                        if ((s % 5 > 2 || s / 5 > 2) && (k % 7 != 0 || j % 3 != 0)) continue; /* more of this would say no more */
+                        by_hand(space[STORE] + MARGIN, below(6), below(6));
+                        fill(space[WORKING] + MARGIN, WORKING_LEN);
+                        put_number(space[WORKING] + MARGIN, ns[i]);
+                        put_number(space[WORKING] + MARGIN + 8, sets[j]);
+                        q.len[SECOND] = second[k / 4 % 5];
+                        q.len[FIRST] = first;
+                        q.len[OUT] = k / 20 == 0 ? q.len[SECOND] : k / 20 == 1 ? q.len[SECOND] + 1 : k / 20 == 2 ? 0 : 16 * n;
+                        if (what >= TAG) q.len[what == TAG ? OUT : FIRST] = (size_t)k % 20;
+                        if (what == CHECK) q.len[OUT] = 1;
+                        if (what == STREAM) q.a = next();
+                        if (what == EXPAND) {
+                            q.b = ls[k % COUNT(ls)];
+                            uint64_t l = q.b == 3 || q.b == 4 ? q.b : 2;
+                            size_t lengths[] = {8 * n * l, 8 * n * l - 1, 0, 8 * n * l + 1};
+                            q.len[FIRST] = lengths[k / COUNT(ls) % 4];
+                        }
+                        one_call(&q);
+                    }
+}
+
+static void grids(void)
+{
+    /* a bit for each number that a function gives */
+    static const int given_by[WHATS] = {0x11,    0x1E011, 0x8011,  0x801F,  0x8033,  0x8033, 0x8033,
+                                        0x8033, 0x8073, 0x8073, 0x8073 & ~0, 0x9813, 0x9813};
+    memset(seen, 0, sizeof seen);
+    for (int b = 0; b < LENTS; b++) fill(space[b], sizeof space[b]);
+    store_grid();
+    key_grid();
+    if (enough()) return;
+    for (int what = 0; what < WHATS; what++)
+        for (int number = 0; number <= 16; number++)
+            if ((given_by[what] >> number & 1) != (seen[what][number] > 0))
+                wrong("%s: the grid has %ld calls with the number %d", names[what], seen[what][number], number);
+}
+
+/* ---- histories: two publishers' calls, each store byte for byte */
+
+static void history(int calls)
+{
+    uint8_t before[STORE_LEN];
+    struct asked q = {.what = FRESH, .len = {STORE_LEN}};
+    one_call(&q);
+    for (int i = 0; i < calls && !enough(); i++) {
+        q.what = below(2) ? LOAD : TAKE;
+        q.a = below(9) ? below(2) : 2;
+        q.b = below(9) ? below(4) : 4;
+        q.len[FIRST] = 256;
+        q.len[SECOND] = 8;
+        shuffle(space[FIRST] + MARGIN);
+        any_row(space[SECOND] + MARGIN);
+        if (below(8) == 0) space[FIRST][MARGIN] = space[FIRST][MARGIN + 1];
+        if (below(8) == 0) space[SECOND][MARGIN] ^= row_sum(space[SECOND] + MARGIN, 8);
+        one_call(&q);
+    }
+    /* loaded, taken, not to be loaded over, dropped, loaded over */
+    static const struct { enum what what; uint64_t publisher, set; uint8_t number; } steps[] = {
+        {FRESH, 0, 0, 0}, {TAKE, 0, 1, 15}, {LOAD, 0, 1, 0}, {LOAD, 1, 1, 0}, {TAKE, 0, 1, 0}, {TAKE, 0, 1, 0}, {LOAD, 0, 1, 16}, {LOAD, 1, 1, 16},
+        {TAKE, 1, 1, 0}, {TAKE, 0, 2, 15}, {LOAD, 0, 1, 16}, {TAKE, 0, 0, 0}, {LOAD, 0, 1, 16}, {TAKE, 1, 0, 0}, {LOAD, 0, 1, 0}, {LOAD, 0, 0, 16},
+        {LOAD, 2, 0, 15}, {TAKE, 2, 0, 15}, {LOAD, 0, 4, 15}};
+    for (int i = 0; i < COUNT(steps); i++) {
+        shuffle(space[FIRST] + MARGIN);
+        any_row(space[SECOND] + MARGIN);
+        memcpy(before, space[STORE] + MARGIN, STORE_LEN);
+        q.what = steps[i].what;
+        q.a = steps[i].publisher;
+        q.b = steps[i].set;
+        q.at[STORE] = before;
+        q.at[FIRST] = space[FIRST] + MARGIN;
+        q.at[SECOND] = space[SECOND] + MARGIN;
+        if (expected_number(&q) != steps[i].number) wrong("step %d of the history is expected to give another number", i);
+        one_call(&q);
+    }
+}
+
+/* ---- what blocks, runs and tags are */
+
+/* A call that must be done. */
+static void done(enum what what, const uint8_t *store, const uint8_t *working, const uint8_t *first, size_t first_len, const uint8_t *second, size_t second_len,
+                 uint8_t *out, size_t out_len, uint64_t q)
+{
+    struct asked call = {.what = what, .a = q, .len = {STORE_LEN, WORKING_LEN, first_len, second_len, out_len}};
+    call.at[STORE] = (uint8_t *)(uintptr_t)store;
+    call.at[WORKING] = (uint8_t *)(uintptr_t)working;
+    call.at[FIRST] = (uint8_t *)(uintptr_t)first;
+    call.at[SECOND] = (uint8_t *)(uintptr_t)second;
+    call.at[OUT] = out;
+    asked_calls++;
+    if (ask(&call) != 0) wrong("%s: refused", names[what]);
+}
+
+static void expand_to(const uint8_t *store, size_t n, size_t l, uint64_t set, const uint8_t *key, uint8_t *working)
+{
+    struct asked call = {.what = EXPAND, .a = n, .b = l, .c = set, .len = {STORE_LEN, WORKING_LEN, 8 * n * l}};
+    call.at[STORE] = (uint8_t *)(uintptr_t)store;
+    call.at[WORKING] = working;
+    call.at[FIRST] = (uint8_t *)(uintptr_t)key;
+    asked_calls++;
+    if (ask(&call) != 0) wrong("expand: refused");
+}
+
+enum { MOST = 1 << 15 };
+static uint8_t src[MOST], made[MOST], again[MOST], expected[MOST];
+
+static void same(const char *what, size_t n, uint64_t set, const uint8_t *a, const uint8_t *b, size_t len)
+{
+    if (len && memcmp(a, b, len) != 0) wrong("n %zu, set %d: %s", n, (int)set, what);
+}
+
+/* With such a working key, a store that has its set and another: a block, CBC, CTR and tags over the block's own function, and back with the
+ * other store. With set 0 all is what the functions that take a key give. */
+static void laws_of(const uint8_t *store, const uint8_t *other, const uint8_t *working, size_t n, size_t l, uint64_t set, const uint8_t *key, size_t blocks)
+{
+    size_t block = 16 * n, whole = blocks * block, all = whole + 5, key_len = 8 * n * l;
+    uint8_t start[64], counter[64], stream[64], back[64], mask[16] = {0}, tag[16], yes;
+    uint64_t q = next();
+    fill(start, block);
+    fill(src, all);
+    memset(start, 0xFF, block - 3);
+    for (size_t at = 0; at < whole; at += block) {
+        for (size_t i = 0; i < block; i++) stream[i] = src[at + i] ^ (at ? expected[at - block + i] : start[i]);
+        done(ENCIPHER, store, working, NULL, 0, stream, block, expected + at, block, 0);
+        if (at >= 3 * block) continue;
+        done(DECIPHER, other, working, NULL, 0, expected + at, block, back, block, 0);
+        same("decipher does not undo encipher", n, set, back, stream, block);
+        done(BY_MATRIX, other, working, NULL, 0, stream, block, back, block, 0);
+        same("by the matrix another block", n, set, back, expected + at, block);
+        done(BACK_BY_MATRIX, store, working, NULL, 0, expected + at, block, back, block, 0);
+        same("decipher by the matrix does not undo", n, set, back, stream, block);
+        if (set == 0 && labyrinth_encipher(n, l, key, key_len, stream, block, back, block) != 0) wrong("encipher refused");
+        if (set == 0) same("not labyrinth_encipher's block", n, set, back, expected + at, block);
+    }
+    done(SEAL, store, working, start, block, src, whole, made, whole, 0);
+    same("not CBC over the block", n, set, made, expected, whole);
+    done(OPEN, other, working, start, block, made, whole, again, whole, 0);
+    same("CBC does not open", n, set, again, src, whole);
+    for (uint64_t i = 0; i * block < all; i++) {
+        unsigned carry = 0;
+        uint64_t add = q + i;
+        int over = add < q; /* past 2^64 */
+        for (size_t p = block; p-- > 0; carry >>= 8) {
+            size_t from = block - 1 - p;
+            carry += start[p] + (from < 8 ? (unsigned)(add >> 8 * from & 0xFF) : from == 8 ? (unsigned)over : 0);
+            counter[p] = (uint8_t)carry;
+        }
+        done(ENCIPHER, store, working, NULL, 0, counter, block, stream, block, 0);
+        for (size_t p = 0; p < block && i * block + p < all; p++) expected[i * block + p] = src[i * block + p] ^ stream[p];
+    }
+    done(STREAM, store, working, start, block, src, all, made, all, q);
+    same("not CTR over the block", n, set, made, expected, all);
+    done(STREAM, other, working, start, block, made, all, again, all, q);
+    same("CTR does not open", n, set, again, src, all);
+    if (n != 1) return;
+    size_t left = all;
+    const uint8_t *message = src;
+    memset(counter, 0, 16);
+    done(ENCIPHER, store, working, NULL, 0, counter, 16, mask, 16, 0);
+    for (int times = left % 16 == 0 && left != 0 ? 1 : 2; times > 0; times--) {
+        uint8_t out = mask[0] >> 7;
+        for (int i = 0; i < 16; i++) mask[i] = (uint8_t)(mask[i] << 1 | (i < 15 ? mask[i + 1] >> 7 : 0));
+        if (out) mask[15] ^= 0x87;
+    }
+    memset(stream, 0, 16);
+    for (; left > 16; message += 16, left -= 16) {
+        for (size_t i = 0; i < 16; i++) counter[i] = stream[i] ^ message[i];
+        done(ENCIPHER, store, working, NULL, 0, counter, 16, stream, 16, 0);
+    }
+    for (size_t i = 0; i < 16; i++) counter[i] = stream[i] ^ mask[i] ^ (i < left ? message[i] : i == left ? 0x80 : 0);
+    done(ENCIPHER, store, working, NULL, 0, counter, 16, stream, 16, 0);
+    for (size_t tag_len = 8; tag_len <= 16; tag_len++) {
+        memset(tag, 0xAA, 16);
+        done(TAG, store, working, NULL, 0, src, all, tag, tag_len, 0);
+        same("not CMAC over the block", n, set, tag, stream, tag_len);
+        yes = 0xAA;
+        done(CHECK, other, working, tag, tag_len, src, all, &yes, 1, 0);
+        if (yes != 1) wrong("set %d: a tag is not verified", (int)set);
+        tag[below(tag_len)] ^= (uint8_t)(1 << below(8));
+        done(CHECK, other, working, tag, tag_len, src, all, &yes, 1, 0);
+        if (yes != 0) wrong("set %d: an altered tag is verified", (int)set);
+    }
+    if (set == 0 && labyrinth_cmac(l, key, key_len, src, all, tag, 16) != 0) wrong("cmac refused");
+    if (set == 0) same("not labyrinth_cmac's tag", n, set, tag, stream, 16);
+}
+
+/* All sizes and sets: keys expanded with one store and used with it and with another that has the same set; words past 8n that mean nothing;
+ * a set loaded anew; the example of another program. */
+static void set_laws(size_t blocks)
+{
+    uint8_t store[STORE_LEN], other[STORE_LEN], working[WORKING_LEN], second[WORKING_LEN], key[128], block[64], one[64], two[64];
+    for (size_t n = 1; n <= 4; n *= 2)
+        for (size_t l = 2; l <= 4; l++)
+            for (uint64_t set = 0; set < 4 && !enough(); set++) {
+                by_hand(store, below(9), below(9));
+                by_hand(other, below(9), below(9));
+                shuffle(store + SET * set);
+                any_row(store + SET * set + 256);
+                if (set) memcpy(other + SET * set, store + SET * set, SET);
+                fill(key, 8 * n * l);
+                expand_to(store, n, l, set, key, working);
+                expand_to(other, n, l, set, key, second);
+                if (memcmp(working, second, WORKING_LEN) != 0) wrong("n %zu, set %d: another working key by a store with the same set", n, (int)set);
+                laws_of(store, other, working, n, l, set, key, blocks);
+                fill(second + 16 + 64 * n, WORKING_LEN - 16 - 64 * n);
+                fill(block, 16 * n);
+                done(ENCIPHER, store, working, NULL, 0, block, 16 * n, one, 16 * n, 0);
+                done(ENCIPHER, store, second, NULL, 0, block, 16 * n, two, 16 * n, 0);
+                same("words past 8n change a block", n, set, one, two, 16 * n);
+                if (set == 0) continue;
+                any_row(other + SET * set + 256);
+                done(ENCIPHER, other, working, NULL, 0, block, 16 * n, two, 16 * n, 0);
+                if (memcmp(one, two, 16 * n) == 0) wrong("n %zu, set %d: a row loaded anew changes no block", n, (int)set);
+                fill(second + 16, WORKING_LEN - 16); /* a working key made by hand */
+                laws_of(store, store, second, n, l, set, key, 2);
+            }
+    /* the substitution v to 255 - v, the row 02 and seven 00, and zeros, from another program */
+    static const uint8_t example[16] = {0x10, 0x83, 0xC6, 0xBF, 0x73, 0x38, 0xB0, 0xD1, 0xA7, 0x6B, 0x50, 0x69, 0x17, 0xD2, 0xC2, 0xAB};
+    memset(store, 0, STORE_LEN);
+    for (int i = 0; i < 256; i++) store[SET + i] = (uint8_t)(255 - i);
+    store[SET + 256] = 2;
+    memset(key, 0, 16);
+    memset(block, 0, 16);
+    expand_to(store, 1, 2, 1, key, working);
+    done(ENCIPHER, store, working, NULL, 0, block, 16, one, 16, 0);
+    same("not the example's block", 1, 1, one, example, 16);
+}
+
+/* A fresh store: the published row, a substitution that as a set of its own gives the published cipher, zeros, and no marks. */
+static void fresh_store(void)
+{
+    static const uint8_t zeros[3 * SET];
+    uint8_t store[STORE_LEN], by_0[WORKING_LEN], by_3[WORKING_LEN], key[32], block[16], one[16], two[16];
+    fill(store, STORE_LEN);
+    if (labyrinth_store_fresh(store, STORE_LEN) != 0) wrong("store_fresh: refused");
+    memcpy(first_fresh, store, STORE_LEN);
+    if (!different(store) || memcmp(store + 256, published, 8) != 0 || memcmp(store + SET, zeros, sizeof zeros) != 0 || number_at(store + MARKS) != 4 ||
+        number_at(store + MARKS + 8) != 4)
+        wrong("store_fresh: not a fresh store");
+    memcpy(store + 3 * SET, store, SET);
+    memset(store, 0, SET);
+    fill(key, 32);
+    fill(block, 16);
+    expand_to(store, 1, 4, 0, key, by_0);
+    expand_to(store, 1, 4, 3, key, by_3);
+    if (memcmp(by_0 + 16, by_3 + 16, WORKING_LEN - 16) != 0) wrong("the published set elsewhere expands to other words");
+    done(ENCIPHER, store, by_0, NULL, 0, block, 16, one, 16, 0);
+    done(ENCIPHER, store, by_3, NULL, 0, block, 16, two, 16, 0);
+    same("the published set elsewhere gives another block", 1, 3, one, two, 16);
+}
+
+/* ---- lengths of 2^32 and more: each that fits once bits are lost */
+
+static long far_records(void)
+{
+    uint8_t *far_off = mmap(NULL, far + ROOM, PROT_READ, MAP_PRIVATE | MAP_ANONYMOUS | MAP_NORESERVE, -1, 0);
+    long calls = 0;
+    if (far_off == MAP_FAILED) stop("mmap");
+    for (int what = 0; what < WHATS; what++)
+        for (int b = 0; b < LENTS; b++) {
+            struct asked q = {.what = (enum what)what, .a = what == EXPAND, .b = what == EXPAND ? 2 : 1, .len = {STORE_LEN, WORKING_LEN, 16, 16, 16}};
+            if (!takes(q.what, (enum lent)b) || (b == OUT && what == CHECK) || (b == SECOND && what >= TAG)) continue;
+            by_hand(space[STORE] + MARGIN, 4, 4);
+            put_number(space[WORKING] + MARGIN, 1);
+            put_number(space[WORKING] + MARGIN + 8, what % 2);
+            shuffle(space[FIRST] + MARGIN);
+            any_row(space[SECOND] + MARGIN);
+            if (what == LOAD) q.len[FIRST] = 256, q.len[SECOND] = 8;
+            for (int i = 0; i < LENTS; i++) q.at[i] = space[i] + MARGIN;
+            q.at[b] = far_off;
+            q.len[b] += far;
+            memcpy(kept, space, sizeof kept);
+            uint8_t number = expected_number(&q), got = ask(&q);
+            calls++;
+            if (number == 0 || got != number) wrong("%s: buffer %d too long by 2^32: %d, not %d", names[what], b, got, number);
+            if (what == CHECK) space[OUT][MARGIN] = kept[OUT][MARGIN];
+            if (memcmp(space, kept, sizeof kept) != 0) wrong("%s: buffer %d too long by 2^32, and bytes written", names[what], b);
+        }
+    munmap(far_off, far + ROOM);
+    return calls;
+}
+
+/* ---- lent memory: each buffer flush against a page that cannot be touched, what is only read not to be written */
+
+static size_t lent_size;
+static uint8_t *lent[LENTS];
+
+static void lend_records(void)
+{
+    size_t page = (size_t)sysconf(_SC_PAGESIZE);
+    lent_size = page;
+    for (int b = 0; b < LENTS && !lent[b]; b++) {
+        uint8_t *at = mmap(NULL, 3 * page, PROT_NONE, MAP_PRIVATE | MAP_ANONYMOUS, -1, 0);
+        if (at == MAP_FAILED || mprotect(at + page, page, PROT_READ | PROT_WRITE) != 0) stop("mmap");
+        lent[b] = at + page;
+    }
+}
+
+static void records_case(enum what only, int place)
+{
+    uint8_t before[LENTS][MOST];
+    struct asked q = {.what = only < WHATS ? only : (enum what)below(WHATS), .a = below(3), .b = below(5), .c = below(5)};
+    uint64_t n = q.what >= TAG ? 1 : (uint64_t)1 << below(3);
+    size_t block = 16 * (size_t)n;
+    if (q.what == EXPAND) q.a = n, q.b = 2 + below(3);
+    size_t len[LENTS] = {STORE_LEN, WORKING_LEN, block, is_block(q.what) ? block : below(3) ? block * below(20) : below(lent_size), 0};
+    if (q.what == LOAD) len[FIRST] = 256, len[SECOND] = 8;
+    if (q.what == EXPAND) len[FIRST] = 8 * (size_t)(n * q.b);
+    if (q.what == SEAL || q.what == OPEN) len[SECOND] -= len[SECOND] % block;
+    len[OUT] = q.what == CHECK ? 1 : q.what == TAG ? 8 + below(9) : len[SECOND];
+    if (q.what == CHECK) len[FIRST] = 8 + below(9);
+    size_t odd = below(12); /* now and then a buffer of another length */
+    if (odd < LENTS && !(q.what == CHECK && odd == OUT)) len[odd] = below(2) ? below(lent_size) : len[odd] + 1;
+    for (int b = 0; b < LENTS; b++) {
         int at_start = place == PLACE_ANY ? (int)below(2) : place;
-        c.at[p] = at_start ? lent[p] : lent[p] + lent_size - c.len[p];
-        fill(c.at[p], c.len[p]);
-        if (c.len[p] == 0 && place == PLACE_ANY && below(2)) c.at[p] = NULL;
+        q.len[b] = takes(q.what, (enum lent)b) ? len[b] : 0;
+        if (q.len[b] > lent_size) q.len[b] = lent_size;
+        q.at[b] = at_start ? lent[b] : lent[b] + lent_size - q.len[b];
+        fill(lent[b], lent_size);
+        if (q.len[b] == 0 && below(2)) q.at[b] = NULL;
     }
-    if (c.len[STORE_PART] == STORE_BYTES && below(8)) {
-        for (int i = 0; i < 4; i++) some_set(c.at[STORE_PART] + SET_BYTES * i);
-        for (int i = 0; i < 2; i++) put_word(c.at[STORE_PART] + MARKS + 8 * i, some_number(below(5)));
-    }
-    if (c.len[WORKING_PART] == WORKING_BYTES) {
-        put_word(c.at[WORKING_PART], some_number(n));
-        put_word(c.at[WORKING_PART] + 8, some_number(below(4)));
-    }
-    if (shape == LOAD && c.len[START_PART] == 256 && c.len[SRC_PART] == 8) {
-        uint8_t set[SET_BYTES];
-        some_set(set);
-        memcpy(c.at[START_PART], set, 256);
-        memcpy(c.at[SRC_PART], set + 256, 8);
-    }
-    static uint8_t *margins, *copies[3];
-    for (int i = 0; i < 3; i++)
-        if (!copies[i] && !(copies[i] = malloc(lent_size))) stop("malloc");
-    if (!margins && !(margins = malloc(lent_size))) stop("malloc");
-    enum part out = written(shape);
-    uint8_t expected = set_number(&c);
-    if (c.len[out]) memcpy(copies[0], c.at[out], c.len[out]);
-    for (int p = 0; p < PARTS; p++)
-        if (p != (int)out && mprotect(lent[p], lent_size, PROT_READ) != 0) stop("mprotect");
-    memcpy(margins, lent[out], lent_size);
-    uint8_t number = misdone(&c);
-    for (int p = 0; p < PARTS; p++)
-        if (mprotect(lent[p], lent_size, PROT_READ | PROT_WRITE) != 0) stop("mprotect");
-    if (number != expected) wrong("%s: %d, not %d", op->name, number, expected);
-    size_t from = c.at[out] ? (size_t)(c.at[out] - lent[out]) : 0, to = from + (number == 0 || shape == KEY_VERIFY ? c.len[out] : 0);
-    if (memcmp(lent[out], margins, from) != 0 || memcmp(lent[out] + to, margins + to, lent_size - to) != 0)
-        wrong("%s: number %d, and bytes written that are not to be", op->name, number);
-    if (shape == KEY_VERIFY && (number ? *c.at[out] != 0 : *c.at[out] > 1)) wrong("%s: number %d, and *yes is %d", op->name, number, *c.at[out]);
-    if (number != 0) return;
-    /* the same in memory of any kind; and undone there it is the source */
-    struct set_call plainly = c;
-    plainly.at[out] = copies[0];
-    if (set_run(&plainly) != 0 || (c.len[out] && memcmp(copies[0], c.at[out], c.len[out]) != 0)) wrong("%s: another answer in other memory", op->name);
-    if (op->back < 0) return;
-    plainly = c;
-    plainly.op = &set_ops[op->back];
-    plainly.at[SRC_PART] = c.at[DST_PART];
-    plainly.at[DST_PART] = copies[1];
-    if (set_run(&plainly) != 0 || (c.len[SRC_PART] && memcmp(copies[1], c.at[SRC_PART], c.len[SRC_PART]) != 0)) wrong("%s: not undone", op->name);
+    if (q.len[STORE] >= STORE_LEN) by_hand(q.at[STORE], below(6), below(6));
+    if (q.len[WORKING] >= 16) put_number(q.at[WORKING], below(12) ? n : 3), put_number(q.at[WORKING] + 8, below(4) ? below(2) : below(5));
+    if (q.what == LOAD && q.len[FIRST] >= 256) shuffle(q.at[FIRST]);
+    for (int b = 0; b < LENTS; b++) memcpy(before[b], lent[b], lent_size);
+    uint8_t number = expected_number(&q);
+    for (int b = 0; b < LENTS; b++)
+        if ((enum lent)b != written_by(q.what) && mprotect(lent[b], lent_size, PROT_READ) != 0) stop("mprotect");
+    uint8_t got = ask(&q);
+    for (int b = 0; b < LENTS; b++)
+        if (mprotect(lent[b], lent_size, PROT_READ | PROT_WRITE) != 0) stop("mprotect");
+    if (got != number) wrong("%s: on lent memory %d, not %d", names[q.what], got, number);
+    enum lent w = written_by(q.what);
+    size_t from = q.at[w] ? (size_t)(q.at[w] - lent[w]) : 0, to = from + (number == 0 || q.what == CHECK ? q.len[w] : 0);
+    if (memcmp(lent[w], before[w], from) != 0 || memcmp(lent[w] + to, before[w] + to, lent_size - to) != 0)
+        wrong("%s: on lent memory number %d, and bytes written that are not to be", names[q.what], got);
 }
 
-/* A trial in a child: what it died of, 0 if it found nothing wrong, or -1. */
-static int in_child(void (*trial)(long, int), uint64_t seed, long cases, int place)
+static int records_memory(enum what only, uint64_t seed, long cases, int place)
 {
     int status;
     fflush(stdout);
@@ -257,7 +603,7 @@ static int in_child(void (*trial)(long, int), uint64_t seed, long cases, int pla
         signal(SIGSEGV, SIG_DFL);
         chance = seed;
         failures = 0;
-        trial(cases, place);
+        for (long i = 0; i < cases && !enough(); i++) records_case(only, place);
         fflush(stdout);
         _exit(failures != 0);
     }
@@ -265,162 +611,213 @@ static int in_child(void (*trial)(long, int), uint64_t seed, long cases, int pla
     return WIFSIGNALED(status) ? WTERMSIG(status) : WEXITSTATUS(status) ? -1 : 0;
 }
 
-static void set_cases(long cases, int place)
+/* ---- stack: by each function, with set 0 and another, at all sizes and lengths about 8 KiB */
+
+static struct asked there;
+
+static void ask_there(void) { sink = ask(&there); }
+
+static size_t records_stack(size_t *each)
 {
-    for (long i = 0; i < cases && !enough(); i++) set_case(place);
-}
-
-static int set_memory(uint64_t seed, long cases, int place) { return in_child(set_cases, seed, cases, place); }
-
-/* ---- calls that are done, for the stack, and with one length too long by 2^32 */
-
-static uint8_t store_room[STORE_BYTES], working_room[WORKING_BYTES], start_room[256], set_room[SET_BYTES], source_room[1 << 17], made_room[1 << 17];
-
-/* A call that is done, under set 3, of which the third part of the sizes is n and the source so long. */
-static struct set_call done(const struct set_op *op, size_t n, size_t length)
-{
-    enum shape shape = op->shape;
-    chance = 1;
-    if (labyrinth_store_fresh(store_room, STORE_BYTES) != 0) wrong("no fresh store");
-    do some_set(set_room);
-    while (!different(set_room) || row_sum(set_room + 256, 8) == 0);
-    if (labyrinth_store_load(store_room, STORE_BYTES, 0, 3, set_room, 256, set_room + 256, 8) != 0) wrong("a set is not loaded");
-    if (shape == KEY_TAG || shape == KEY_VERIFY) n = 1;
-    fill(working_room, sizeof working_room);
-    put_word(working_room, n);
-    put_word(working_room + 8, 3);
-    struct set_call c = {.op = op, .set = 3, .n = n, .l = 4, .q = 1};
-    size_t source = shape == LOAD ? 8 : shape == EXPAND ? 32 * n : shape == KEY_BLOCK ? 16 * n : length;
-    size_t lengths[PARTS] = {STORE_BYTES, WORKING_BYTES, shape == LOAD ? 256 : 16 * n, source, shape == EXPAND ? WORKING_BYTES : shape == KEY_TAG ? 16 : shape == KEY_VERIFY ? 1 : source};
-    uint8_t *rooms[PARTS] = {store_room, working_room, shape == LOAD ? set_room : start_room, shape == LOAD ? set_room + 256 : source_room, made_room};
-    for (int p = 0; p < PARTS; p++)
-        if (has_part(shape, (enum part)p)) c.at[p] = rooms[p], c.len[p] = lengths[p];
-    return c;
-}
-
-/* Each length too long by 2^32, of memory that may only be read: refused as such lengths are, and nothing is written. How many calls. */
-static long set_far_lengths(void)
-{
-    long calls = 0;
-    uint8_t *off = mmap(NULL, far + (1 << 17), PROT_READ, MAP_PRIVATE | MAP_ANONYMOUS | MAP_NORESERVE, -1, 0);
-    if (off == MAP_FAILED) stop("mmap");
-    for (const struct set_op *op = set_ops; op < set_ops + SET_OPS; op++)
-        for (int p = 0; p < PARTS; p++) {
-            int is_message = p == SRC_PART && (op->shape == KEY_TAG || op->shape == KEY_VERIFY); /* which has any length */
-            if (!has_part(op->shape, (enum part)p) || (p == DST_PART && op->shape == KEY_VERIFY) || is_message) continue;
-            struct set_call c = done(op, 1, 64);
-            c.at[p] = off;
-            c.len[p] += far;
-            uint8_t held[STORE_BYTES], expected = set_number(&c), number;
-            memcpy(held, store_room, STORE_BYTES);
-            made_room[0] = 1;
-            number = set_run(&c);
-            calls++;
-            if (expected == 0 || number != expected) wrong("%s: part %d longer by 2^32: %d, not %d", op->name, p, number, expected);
-            if (memcmp(held, store_room, STORE_BYTES) != 0 || made_room[0] != (op->shape != KEY_VERIFY)) wrong("%s: part %d longer by 2^32: something was written", op->name, p);
-        }
-    munmap(off, far + (1 << 17));
-    return calls;
-}
-
-static struct set_call there_set;
-
-static __attribute__((noinline)) void deepen(void)
-{
-    volatile uint8_t room[LABYRINTH_STACK + 64];
-    room[0] = 1;
-    sink = room[0];
-}
-
-static void set_on_stack(void)
-{
-    if (misdeed.what == DEEP) deepen();
-    sink = set_run(&there_set);
-}
-
-/* The largest use of the stack by a function, what is pushed to call it counted too. */
-static size_t set_stack(const struct set_op *op)
-{
-    static const size_t lengths[] = {0, 64, 1024, 2048 + 64, 65536};
+    static const size_t lengths[] = {0, 64, 8192, 8192 + 64, 16384};
+    static uint8_t store[STORE_LEN], working[WORKING_LEN], first[256], row[8];
     size_t most = 0;
-    for (size_t n = 1; n <= 4; n *= 2)
-        for (size_t i = 0; i < sizeof lengths / sizeof *lengths; i++)
-            for (uint64_t set = 0; set <= 3; set += 3) {
-                there_set = done(op, n, lengths[i]);
-                there_set.set = set;
-                put_word(working_room + 8, set);
-                size_t used = stack_under(set_on_stack);
-                if (used > most) most = used;
-            }
+    for (int what = 0; what < WHATS; what++) {
+        each[what] = 0;
+        for (size_t n = 1; n <= (what >= TAG ? 1 : 4); n *= 2)
+            for (uint64_t set = 0; set < 3; set++)
+                for (int i = 0; i < COUNT(lengths); i++) {
+                    by_hand(store, 4, 4);
+                    put_number(working, n);
+                    put_number(working + 8, set);
+                    shuffle(first);
+                    any_row(row);
+                    there = (struct asked){.what = (enum what)what, .a = what == EXPAND ? n : 1, .b = what == EXPAND ? 4 : 1, .c = set,
+                                           .at = {store, working, first, what == LOAD ? row : src, made},
+                                           .len = {STORE_LEN, WORKING_LEN, 16 * n, is_block((enum what)what) ? 16 * n : lengths[i], 0}};
+                    if (what == LOAD) there.len[FIRST] = 256, there.len[SECOND] = 8;
+                    if (what == EXPAND) there.len[FIRST] = 32 * n;
+                    if (what == CHECK) there.len[FIRST] = 16;
+                    there.len[OUT] = what == TAG ? 16 : there.len[SECOND];
+                    size_t used = stack_by(ask_there);
+                    if (used > LABYRINTH_STACK) wrong("%s: %zu bytes of stack, and the header says %d", names[what], used, LABYRINTH_STACK);
+                    if (used > each[what]) each[what] = used;
+                }
+        if (each[what] > most) most = each[what];
+    }
     return most;
 }
 
-/* ---- all, and that it is noticed */
+/* ---- stubs: each does what the library does, but for one thing, and the trials must notice */
 
-static int noticed;
+enum fault { HONEST, EXCHANGES, TOUCHES, KEEPS_OLD, ALTERS, READS_SET_0, MARK_AS_3, FORGETS_MARK, HOLDS_LOADED, CUTS_SET, CUTS_N, LEAVES_YES, TAKES_LONGER,
+             READS_PAST, READS_BEFORE, WRITES, DEEP };
+static struct { enum fault fault; enum what what; enum lent lent; uint8_t from, to; } faulty;
 
-static void notice(int as_it_should, const char *what, const char *where)
+static uint8_t ask_stub(const struct asked *given)
 {
-    noticed++;
-    if (!as_it_should) wrong("a store function that %s %s is not told as it should be", what, where);
+    static uint8_t copy[MOST], changed[STORE_LEN], key[WORKING_LEN];
+    struct asked q = *given;
+    enum lent w = written_by(q.what);
+    int mine = faulty.what == q.what || faulty.what == WHATS;
+    volatile uint8_t deep[LABYRINTH_STACK + 512];
+    if (mine && faulty.fault == DEEP)
+        for (size_t i = 0; i < sizeof deep; i += 64) deep[i] = 1, sink = deep[i];
+    if (mine && faulty.fault == READS_PAST && q.at[faulty.lent]) sink = q.at[faulty.lent][q.len[faulty.lent]];
+    if (mine && faulty.fault == READS_BEFORE && q.at[faulty.lent]) sink = q.at[faulty.lent][-1];
+    if (mine && faulty.fault == WRITES && q.len[faulty.lent]) *(volatile uint8_t *)q.at[faulty.lent] = q.at[faulty.lent][0];
+    if (q.len[w] && q.len[w] <= MOST && q.at[w]) memcpy(copy, q.at[w], q.len[w]);
+    int whole = q.len[STORE] == STORE_LEN, keyed = q.what > EXPAND && whole && q.len[WORKING] == WORKING_LEN;
+    if (mine && whole && (faulty.fault == READS_SET_0 || faulty.fault == MARK_AS_3 || faulty.fault == FORGETS_MARK || faulty.fault == HOLDS_LOADED)) {
+        memcpy(changed, q.at[STORE], STORE_LEN);
+        if (faulty.fault == READS_SET_0 && keyed && number_at(q.at[WORKING] + 8) == 0) { /* set 0 as it stands */
+            memcpy(changed + SET, changed, SET);
+            memcpy(key, q.at[WORKING], WORKING_LEN);
+            put_number(key + 8, 1);
+            q.at[WORKING] = key;
+        }
+        for (int p = 0; p < 2; p++) {
+            uint64_t mark = number_at(changed + MARKS + 8 * p);
+            if (faulty.fault == MARK_AS_3 && mark > 3) put_number(changed + MARKS + 8 * p, 3);
+            if (faulty.fault == FORGETS_MARK && p == 1) put_number(changed + MARKS + 8 * p, 4);
+            if (faulty.fault == HOLDS_LOADED && !is_loaded(changed, mark)) put_number(changed + MARKS + 8 * p, 4);
+        }
+        q.at[STORE] = changed;
+    }
+    if (mine && faulty.fault == CUTS_SET && keyed) {
+        memcpy(key, q.at[WORKING], WORKING_LEN);
+        memset(key + 9, 0, 7);
+        q.at[WORKING] = key;
+    }
+    if (mine && faulty.fault == CUTS_N && keyed) {
+        memcpy(key, q.at[WORKING], WORKING_LEN);
+        memset(key + 4, 0, 4);
+        q.at[WORKING] = key;
+    }
+    if (mine && faulty.fault == TAKES_LONGER && q.len[faulty.lent] > (faulty.lent == STORE ? STORE_LEN : WORKING_LEN))
+        q.len[faulty.lent] = faulty.lent == STORE ? STORE_LEN : WORKING_LEN;
+    uint8_t number = ask_library(&q);
+    if (!mine) return number;
+    if (q.at[STORE] == changed && q.what <= TAKE && number == 0) { /* what the call wrote, with the marks as they were */
+        for (int p = 0; p < 2; p++)
+            if (q.what == LOAD || q.a != (uint64_t)p) memcpy(changed + MARKS + 8 * p, given->at[STORE] + MARKS + 8 * p, 8);
+        memcpy(given->at[STORE], changed, STORE_LEN);
+    }
+    if (faulty.fault == TOUCHES && number != 0 && number == faulty.from && given->len[w] && given->at[w] && given->len[w] <= MOST) given->at[w][below(given->len[w])] ^= 1;
+    if (faulty.fault == LEAVES_YES && number != 0) given->at[w][0] = copy[0];
+    if (faulty.fault == KEEPS_OLD && number == 0) memcpy(given->at[w], copy, given->len[w]);
+    if (faulty.fault == ALTERS && number == 0 && given->len[w]) given->at[w][below(given->len[w])] ^= (uint8_t)(1 << below(8));
+    if (faulty.fault == EXCHANGES && number == faulty.from) return faulty.to;
+    return number;
 }
 
-static void far_trial(long cases, int place)
+/* All trials, short; how many failures they found. */
+static long tried_all(uint64_t seed)
 {
-    (void)cases, (void)place;
-    set_far_lengths();
+    long before = failures, found;
+    quiet = 1;
+    failures = 0;
+    chance = seed;
+    history(200);
+    if (!failures) set_laws(2);
+    if (!failures) grids();
+    if (!failures) far_records();
+    found = failures;
+    failures = before;
+    quiet = 0;
+    return found;
 }
 
-static void try_misdeeds(uint64_t seed)
+static int noticed(int yes, const char *what)
+{
+    if (!yes) wrong("a stub passed for the library: %s %s %d", names[faulty.what < WHATS ? faulty.what : 0], what, faulty.from);
+    return 1;
+}
+
+int try_record_stubs(uint64_t seed)
 {
     enum { CASES = 1500 };
-    static const char *const names[PARTS] = {"the store", "the working key", "start, the substitution or the tag", "src, the row or the key", "dst"};
-    long kept = failures;
-    for (int p = 0; p < PARTS; p++) {
-        misdeed.part = (enum part)p;
-        misdeed.what = PAST;
-        notice(set_memory(seed, CASES, PLACE_END) == SIGSEGV, "reads one byte past", names[p]);
-        misdeed.what = BEFORE;
-        notice(set_memory(seed, CASES, PLACE_START) == SIGSEGV, "reads one byte before", names[p]);
-        misdeed.what = WRITES;
-        if (p != DST_PART) notice(set_memory(seed, CASES, PLACE_END) == SIGSEGV, "writes to", names[p]);
+    static const struct { enum fault fault; enum what what; enum lent lent; uint8_t from, to; const char *does; } stubs[] = {
+        {EXCHANGES, FRESH, STORE, 4, 5, "gives 5 for"}, {EXCHANGES, LOAD, STORE, 15, 14, "gives 14 for"}, {EXCHANGES, LOAD, STORE, 14, 13, "gives 13 for"},
+        {EXCHANGES, LOAD, STORE, 13, 16, "gives 16 for"}, {EXCHANGES, LOAD, STORE, 16, 15, "gives 15 for"}, {EXCHANGES, LOAD, STORE, 4, 14, "gives 14 for"},
+        {EXCHANGES, TAKE, STORE, 15, 16, "gives 16 for"}, {EXCHANGES, EXPAND, STORE, 15, 3, "gives 3 for"}, {EXCHANGES, EXPAND, STORE, 2, 15, "gives 15 for"},
+        {EXCHANGES, ENCIPHER, STORE, 15, 4, "gives 4 for"}, {EXCHANGES, SEAL, STORE, 15, 6, "gives 6 for"}, {EXCHANGES, STREAM, STORE, 6, 15, "gives 15 for"},
+        {EXCHANGES, TAG, STORE, 12, 15, "gives 15 for"}, {EXCHANGES, CHECK, STORE, 15, 12, "gives 12 for"}, {EXCHANGES, CHECK, STORE, 11, 0, "gives 0 for"},
+        {MARK_AS_3, LOAD, STORE, 0, 0, "reads a mark above 3 as 3"}, {FORGETS_MARK, LOAD, STORE, 0, 0, "looks at one publisher's mark only"},
+        {HOLDS_LOADED, LOAD, STORE, 0, 0, "holds loaded sets only"}, {READS_SET_0, ENCIPHER, STORE, 0, 0, "reads set 0 from the store"},
+        {READS_SET_0, OPEN, STORE, 0, 0, "reads set 0 from the store"}, {READS_SET_0, CHECK, STORE, 0, 0, "reads set 0 from the store"},
+        {CUTS_SET, DECIPHER, WORKING, 0, 0, "takes a set modulo 256"}, {CUTS_SET, TAG, WORKING, 0, 0, "takes a set modulo 256"},
+        {CUTS_N, BY_MATRIX, WORKING, 0, 0, "takes n modulo 2^32"}, {CUTS_N, STREAM, WORKING, 0, 0, "takes n modulo 2^32"},
+        {LEAVES_YES, CHECK, OUT, 0, 0, "leaves yes as it was on refusal"}, {TAKES_LONGER, WHATS, STORE, 0, 0, "takes a longer store"},
+        {TAKES_LONGER, WHATS, WORKING, 0, 0, "takes a longer working key"},
+    };
+    int trials = 0;
+    ask = ask_stub;
+    faulty.fault = HONEST;
+    faulty.what = WHATS;
+    trials += noticed(tried_all(seed) == 0, "does as the library does");
+    for (int place = PLACE_END; place <= PLACE_ANY; place++) trials += noticed(records_memory(WHATS, seed, CASES, place) == 0, "does as the library does on lent memory");
+    for (size_t i = 0; i < sizeof stubs / sizeof *stubs; i++) {
+        faulty.fault = stubs[i].fault;
+        faulty.what = stubs[i].what;
+        faulty.lent = stubs[i].lent;
+        faulty.from = stubs[i].from;
+        faulty.to = stubs[i].to;
+        trials += noticed(tried_all(seed) > 0, stubs[i].does);
     }
+    for (int what = 0; what < WHATS; what++) {
+        faulty.what = (enum what)what;
+        faulty.fault = KEEPS_OLD;
+        trials += noticed(tried_all(seed) > 0, "writes nothing");
+        faulty.fault = ALTERS;
+        trials += noticed(tried_all(seed) > 0, "alters a bit");
+        faulty.fault = TOUCHES;
+        for (faulty.from = 1; faulty.from <= 16 && what != CHECK; faulty.from++)
+            if (seen[what][faulty.from]) trials += noticed(tried_all(seed) > 0, "touches what it is to keep, with the number");
+        for (int b = 0; b < LENTS; b++) {
+            if (!takes(faulty.what, (enum lent)b)) continue;
+            faulty.lent = (enum lent)b;
+            faulty.fault = READS_PAST;
+            trials += noticed(records_memory(faulty.what, seed, CASES, PLACE_END) == SIGSEGV, "reads one byte past");
+            faulty.fault = READS_BEFORE;
+            trials += noticed(records_memory(faulty.what, seed, CASES, PLACE_START) == SIGSEGV, "reads one byte before");
+            faulty.fault = WRITES;
+            if (faulty.lent != written_by(faulty.what)) trials += noticed(records_memory(faulty.what, seed, CASES, PLACE_ANY) == SIGSEGV, "writes to what is only read");
+        }
+    }
+    size_t each[WHATS];
+    long before = failures;
+    faulty.fault = DEEP;
+    faulty.what = WHATS;
     quiet = 1;
-    misdeed.what = TOUCHES;
-    notice(set_memory(seed, CASES, PLACE_ANY) == -1, "touches what it writes", "on refusal");
-    misdeed.what = SWAPS;
-    notice(set_memory(seed, CASES, PLACE_ANY) == -1, "exchanges 15 and 4", "");
-    misdeed.what = ALTERS;
-    notice(set_memory(seed, CASES, PLACE_ANY) == -1, "alters a bit", "");
-    misdeed.what = CUTS;
-    notice(in_child(far_trial, seed, 0, 0) != 0, "takes lengths modulo 2^32", "");
-    misdeed.what = DEEP;
-    notice(set_stack(&set_ops[0]) > LABYRINTH_STACK, "uses more stack", "");
-    misdeed.what = HONEST;
-    failures = kept;
+    size_t most = records_stack(each);
     quiet = 0;
+    failures = before;
+    trials += noticed(most > LABYRINTH_STACK, "uses more stack");
+    ask = ask_library;
+    return trials;
 }
 
-/* How many calls on lent memory, and trials of misdeeds, there were; each function's stack. */
-long stores(uint64_t seed, long cases, size_t *each, int *trials)
+/* All of it; the number of calls, and the most stack. */
+long records(uint64_t seed, int large, size_t *most)
 {
-    enum { FAR_CALLS = 45 };
-    long calls = set_far_lengths();
-    if (calls != FAR_CALLS) wrong("%ld lengths of 2^32 and more, not %d", calls, FAR_CALLS);
-    for (int o = 0; o < SET_OPS; o++) {
-        each[o] = set_stack(&set_ops[o]);
-        if (each[o] > LABYRINTH_STACK) wrong("%s: %zu bytes of stack, and the header says %d", set_ops[o].name, each[o], LABYRINTH_STACK);
-    }
+    size_t each[WHATS];
+    asked_calls = 0;
+    chance = seed;
+    lend_records();
+    fresh_store();
+    history(large ? 100000 : 4000);
+    for (size_t blocks = 0; blocks < 6; blocks++) set_laws(blocks);
+    set_laws(300); /* over 8 KiB at n = 2 and 4, where the eight tables are used */
+    grids();
+    asked_calls += far_records();
+    *most = records_stack(each);
+    for (int what = 0; large && what < WHATS; what++) printf("c_interface: %s: %zu bytes of stack\n", names[what], each[what]);
+    long cases = large ? 100000 : 4000;
     for (int place = PLACE_END; place <= PLACE_ANY; place++) {
-        int died = set_memory(seed + (uint64_t)place, cases, place);
-        if (died != 0) wrong("the store on lent memory, seed %llu, place %d: %s", (unsigned long long)seed, place, died > 0 ? strsignal(died) : "see above");
-        calls += cases;
+        int died = records_memory(WHATS, seed + (uint64_t)place, cases, place);
+        if (died != 0) wrong("records on lent memory, place %d: %s", place, died > 0 ? strsignal(died) : "see above");
+        asked_calls += cases;
     }
-    if (labyrinth_store_fresh(NULL, 0) != 4 || labyrinth_store_take(NULL, 0, 0, 0) != 4 || labyrinth_expand(NULL, 0, 1, 2, 0, NULL, 0, NULL, 0) != 4)
-        wrong("NULL, a store of 0 bytes");
-    try_misdeeds(seed);
-    *trials = noticed;
-    return calls;
+    return asked_calls;
 }
-
-const char *store_name(int o) { return set_ops[o].name; }

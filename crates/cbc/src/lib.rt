@@ -3,6 +3,7 @@
 // What the block map needs is prepared once for a run, and lent to every block. Each inner function is stated over the block map m that
 // it gives.
 use labyrinth::WorkingKey;
+use sets::Store;
 ghost use mathlib.Core.Path.{_≡_};
 ghost use mathlib.Core.List.{List};
 ghost use Prim.Native.Nat.{ℕ, _*_, _%_};
@@ -10,29 +11,70 @@ ghost use lib.ListN.{length};
 ghost use Rattle.forms.specs.Refusals.{outcome};
 ghost use Rattle.labyrinth.specs.Cipher.{article};
 ghost use Rattle.labyrinth.specs.Keys.{E, U};
+ghost use Rattle.labyrinth.specs.Refusals.{underKey};
 ghost use Rattle.labyrinth.specs.Working.{Size};
-ghost use Rattle.labyrinth.specs.Lent.{Gives};
+ghost use Rattle.labyrinth.specs.Lent.{lent, Gives};
+ghost use Rattle.sets.specs.Sets.{loaded, partsIn};
 ghost use Rattle.modes.specs.Cbc.{cbcSeal, cbcOpen};
 ghost use Rattle.modes.specs.Refusals.{cbcRefusal};
 
-// Seals src to dst, after the start block.
-pub fn seal(k: WorkingKey, start: &[u8], src: &[u8], dst: &mut [u8]) -> u8
-    ensures number { λ r. ⌜ r ≡ cbcRefusal (k .n) (length (now (start .entry))) (length (now (src .entry))) (length (now (dst .entry))) ⌝ }
-    ensures run { λ r. ⌜ now (dst .exit) ≡ outcome r (cbcSeal (E article (k .n) (k .words)) (16 * k .n) (now (start .entry)) (now (src .entry))) (now (dst .entry)) ⌝ }
+// Seals src to dst, after the start block, with the tables lent.
+fn seal_lent(
+    t: &[u64; 256],
+    s: &[u8; 256],
+    u: &[u8; 256],
+    n: usize,
+    ks: &[u64; 80],
+    start: &[u8],
+    src: &[u8],
+    dst: &mut [u8],
+) -> u8
+    ensures number { λ r. ⌜ r ≡ cbcRefusal n (length (now (start .entry))) (length (now (src .entry))) (length (now (dst .entry))) ⌝ }
+    ensures run { λ r. ⌜ now (dst .exit) ≡ outcome r (cbcSeal (lent n (now (t .entry)) (now (s .entry)) (now (u .entry)) (now (ks .entry))) (16 * n) (now (start .entry)) (now (src .entry))) (now (dst .entry)) ⌝ }
 {
-    let n = k.n;
     let number = run_refusals::cbc_refusal(n, start.len(), src.len(), dst.len());
     if number != 0 {
         return number;
     }
+    let size = start.len();
+    let mut chain = strings::block_copy(start);
+    chains::chain(t, s, u, n, ks, &mut chain[..size], src, dst);
+    0
+}
+
+// Seals src to dst, after the start block, with the published set, whichever set the key names.
+pub fn seal_published(k: WorkingKey, start: &[u8], src: &[u8], dst: &mut [u8]) -> u8
+    ensures number { λ r. ⌜ r ≡ cbcRefusal (k .n) (length (now (start .entry))) (length (now (src .entry))) (length (now (dst .entry))) ⌝ }
+    ensures run { λ r. ⌜ now (dst .exit) ≡ outcome r (cbcSeal (E article (k .n) (k .words)) (16 * k .n) (now (start .entry)) (now (src .entry))) (now (dst .entry)) ⌝ }
+{
+    let n = k.n;
     let t = table_cipher::table();
     let s = table_cipher::substitution();
     let u = table_cipher::inverse();
     let ks = table_cipher::schedule(k, false);
-    let size = start.len();
-    let mut chain = strings::block_copy(start);
-    chains::chain(&t, &s, &u, n, &ks, &mut chain[..size], src, dst);
-    0
+    seal_lent(&t, &s, &u, n, &ks, start, src, dst)
+}
+
+// Seals src to dst, after the start block: 15 if the set that the key names isn't loaded, right after 1. Set 0 goes its own way, and reads no store.
+pub fn seal(store: Store, k: WorkingKey, start: &[u8], src: &[u8], dst: &mut [u8]) -> u8
+    ensures number { λ r. ⌜ r ≡ underKey (k .n) (loaded store (k .set)) (cbcRefusal (k .n) (length (now (start .entry))) (length (now (src .entry))) (length (now (dst .entry)))) ⌝ }
+    ensures run { λ r. ⌜ now (dst .exit) ≡ outcome r (cbcSeal (E (partsIn store (k .set)) (k .n) (k .words)) (16 * k .n) (now (start .entry)) (now (src .entry))) (now (dst .entry)) ⌝ }
+{
+    if k.set == 0 {
+        return seal_published(k, start, src, dst);
+    }
+    let n = k.n;
+    let number = labyrinth::under_key(n, sets::is_loaded(store, k.set), 0);
+    if number != 0 {
+        return number;
+    }
+    let v = sets::set_in(store, k.set);
+    let s = v.substitution;
+    let g = v.row;
+    let t = table_cipher::table_of(g, &s);
+    let u = table_cipher::inverse_of(&s);
+    let ks = table_cipher::schedule(k, false);
+    seal_lent(&t, &s, &u, n, &ks, start, src, dst)
 }
 
 // Opens a run with the tables lent. Every block is mapped, XOR the sealed block before it; before the first stands the start block.
@@ -59,20 +101,59 @@ fn open_run(
     }
 }
 
-// Opens src to dst, after the start block.
-pub fn open(k: WorkingKey, start: &[u8], src: &[u8], dst: &mut [u8]) -> u8
-    ensures number { λ r. ⌜ r ≡ cbcRefusal (k .n) (length (now (start .entry))) (length (now (src .entry))) (length (now (dst .entry))) ⌝ }
-    ensures run { λ r. ⌜ now (dst .exit) ≡ outcome r (cbcOpen (U article (k .n) (k .words)) (16 * k .n) (now (start .entry)) (now (src .entry))) (now (dst .entry)) ⌝ }
+// Opens src to dst, after the start block, with the tables lent.
+fn open_lent(
+    t: &[u64; 256],
+    s: &[u8; 256],
+    u: &[u8; 256],
+    n: usize,
+    ks: &[u64; 80],
+    start: &[u8],
+    src: &[u8],
+    dst: &mut [u8],
+) -> u8
+    ensures number { λ r. ⌜ r ≡ cbcRefusal n (length (now (start .entry))) (length (now (src .entry))) (length (now (dst .entry))) ⌝ }
+    ensures run { λ r. ⌜ now (dst .exit) ≡ outcome r (cbcOpen (lent n (now (t .entry)) (now (s .entry)) (now (u .entry)) (now (ks .entry))) (16 * n) (now (start .entry)) (now (src .entry))) (now (dst .entry)) ⌝ }
 {
-    let n = k.n;
     let number = run_refusals::cbc_refusal(n, start.len(), src.len(), dst.len());
     if number != 0 {
         return number;
     }
+    open_run(t, s, u, n, ks, start, src, dst);
+    0
+}
+
+// Opens src to dst, after the start block, with the published set, whichever set the key names.
+pub fn open_published(k: WorkingKey, start: &[u8], src: &[u8], dst: &mut [u8]) -> u8
+    ensures number { λ r. ⌜ r ≡ cbcRefusal (k .n) (length (now (start .entry))) (length (now (src .entry))) (length (now (dst .entry))) ⌝ }
+    ensures run { λ r. ⌜ now (dst .exit) ≡ outcome r (cbcOpen (U article (k .n) (k .words)) (16 * k .n) (now (start .entry)) (now (src .entry))) (now (dst .entry)) ⌝ }
+{
+    let n = k.n;
     let t = table_cipher::table();
     let s = table_cipher::substitution();
     let u = table_cipher::inverse();
     let ks = table_cipher::schedule(k, true);
-    open_run(&t, &s, &u, n, &ks, start, src, dst);
-    0
+    open_lent(&t, &s, &u, n, &ks, start, src, dst)
+}
+
+// Opens src to dst, after the start block: 15 if the set that the key names isn't loaded, right after 1. Set 0 goes its own way, and reads no store.
+pub fn open(store: Store, k: WorkingKey, start: &[u8], src: &[u8], dst: &mut [u8]) -> u8
+    ensures number { λ r. ⌜ r ≡ underKey (k .n) (loaded store (k .set)) (cbcRefusal (k .n) (length (now (start .entry))) (length (now (src .entry))) (length (now (dst .entry)))) ⌝ }
+    ensures run { λ r. ⌜ now (dst .exit) ≡ outcome r (cbcOpen (U (partsIn store (k .set)) (k .n) (k .words)) (16 * k .n) (now (start .entry)) (now (src .entry))) (now (dst .entry)) ⌝ }
+{
+    if k.set == 0 {
+        return open_published(k, start, src, dst);
+    }
+    let n = k.n;
+    let number = labyrinth::under_key(n, sets::is_loaded(store, k.set), 0);
+    if number != 0 {
+        return number;
+    }
+    let v = sets::set_in(store, k.set);
+    let s = v.substitution;
+    let g = v.row;
+    let t = table_cipher::table_of(g, &s);
+    let u = table_cipher::inverse_of(&s);
+    let ks = table_cipher::schedule(k, true);
+    open_lent(&t, &s, &u, n, &ks, start, src, dst)
 }

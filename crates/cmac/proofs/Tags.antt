@@ -38,6 +38,15 @@ module _ (e : List ℕ → List ℕ) (m : List ℕ) where
   compared-yes given zero p z l y = ap (λ (b : Bool). record { number = 0; yes = b }) (y ∙ ap (λ (x : List ℕ). same (take (length given) x) given) l)
   compared-yes given (suc n) p z l y = let f : ⊥ = omega arith in absurd f
 
+-- a block map matters only where the number is 0
+pub verified-under : (e f : List ℕ → List ℕ) (m given : List ℕ) {n k : ℕ} → n ≡ k → (n ≡ 0 → e ≡ f) → verification e m given n ≡ verification f m given k
+unfolding verification
+verified-under e f m given {n} p h = go n h ∙ ap (verification f m given) p
+  where
+    go : (n : ℕ) → (n ≡ 0 → e ≡ f) → verification e m given n ≡ verification f m given n
+    go zero h = ap (λ (x : List ℕ → List ℕ). verification x m given 0) (h refl)
+    go (suc n) h = refl
+
 -- ---- verifying what was made
 
 pub verification-number : (e : List ℕ → List ℕ) (m given : List ℕ) (n : ℕ) → verification e m given n .number ≡ n

@@ -3,6 +3,7 @@
 // What the block map needs is prepared once for a message, and lent to every block. Each inner function is stated over the block map m
 // that it gives.
 use labyrinth::WorkingKey;
+use sets::Store;
 ghost use mathlib.Core.Path.{_≡_};
 ghost use mathlib.Core.List.{List};
 ghost use Prim.Native.Nat.{ℕ, _*_, _-_};
@@ -11,7 +12,9 @@ ghost use Rattle.forms.specs.Refusals.{outcome};
 ghost use Rattle.forms.specs.Strings.{xorBytes};
 ghost use Rattle.labyrinth.specs.Cipher.{article};
 ghost use Rattle.labyrinth.specs.Keys.{E};
-ghost use Rattle.labyrinth.specs.Lent.{Gives};
+ghost use Rattle.labyrinth.specs.Refusals.{underKey};
+ghost use Rattle.labyrinth.specs.Lent.{lent, Gives};
+ghost use Rattle.sets.specs.Sets.{loaded, partsIn};
 ghost use Rattle.modes.specs.Cmac.{blockCount, mac};
 ghost use Rattle.modes.specs.Cmac.{tag as madeTag};
 ghost use Rattle.modes.specs.Refusals.{cmacRefusal};
@@ -76,47 +79,123 @@ fn last_of(t: &[u64; 256], s: &[u8; 256], u: &[u8; 256], ks: &[u64; 80], message
     c
 }
 
-// The last block of a message's chain under a working key.
-fn chained(k: WorkingKey, message: &[u8]) -> [u8; 16]
-    requires { ⌜ k .n ≡ 1 ⌝ }
-    ensures { λ r. ⌜ r ≡ mac (E article (k .n) (k .words)) (now (message .entry)) ⌝ }
+// Makes a message's tag, as long as dst, with the tables lent.
+fn make_lent(
+    t: &[u64; 256],
+    s: &[u8; 256],
+    u: &[u8; 256],
+    n: usize,
+    ks: &[u64; 80],
+    message: &[u8],
+    dst: &mut [u8],
+) -> u8
+    ensures number { λ r. ⌜ r ≡ cmacRefusal n (length (now (dst .entry))) ⌝ }
+    ensures tag { λ r. ⌜ now (dst .exit) ≡ outcome r (madeTag (lent n (now (t .entry)) (now (s .entry)) (now (u .entry)) (now (ks .entry))) (length (now (dst .entry))) (now (message .entry))) (now (dst .entry)) ⌝ }
 {
-    let t = table_cipher::table();
-    let s = table_cipher::substitution();
-    let u = table_cipher::inverse();
-    let ks = table_cipher::schedule(k, false);
-    last_of(&t, &s, &u, &ks, message)
-}
-
-// Makes a message's tag, as long as dst.
-pub fn make(k: WorkingKey, message: &[u8], dst: &mut [u8]) -> u8
-    ensures number { λ r. ⌜ r ≡ cmacRefusal (k .n) (length (now (dst .entry))) ⌝ }
-    ensures tag { λ r. ⌜ now (dst .exit) ≡ outcome r (madeTag (E article (k .n) (k .words)) (length (now (dst .entry))) (now (message .entry))) (now (dst .entry)) ⌝ }
-{
-    let number = run_refusals::cmac_refusal(k.n, dst.len());
+    let number = run_refusals::cmac_refusal(n, dst.len());
     if number != 0 {
         return number;
     }
-    let last = chained(k, message);
+    let last = last_of(t, s, u, ks, message);
     strings::copy_into(dst, &last);
     0
 }
 
-// Verifies a given tag: every byte of it is compared.
-pub fn verify(k: WorkingKey, message: &[u8], tag: &[u8]) -> Verified
-    ensures { λ r. ⌜ r ≡ verification (E article (k .n) (k .words)) (now (message .entry)) (now (tag .entry)) (cmacRefusal (k .n) (length (now (tag .entry)))) ⌝ }
+// Verifies a given tag with the tables lent: every byte of it is compared.
+fn verify_lent(
+    t: &[u64; 256],
+    s: &[u8; 256],
+    u: &[u8; 256],
+    n: usize,
+    ks: &[u64; 80],
+    message: &[u8],
+    tag: &[u8],
+) -> Verified
+    ensures { λ r. ⌜ r ≡ verification (lent n (now (t .entry)) (now (s .entry)) (now (u .entry)) (now (ks .entry))) (now (message .entry)) (now (tag .entry)) (cmacRefusal n (length (now (tag .entry)))) ⌝ }
 {
     let size = tag.len();
-    let number = run_refusals::cmac_refusal(k.n, size);
+    let number = run_refusals::cmac_refusal(n, size);
     if number != 0 {
         return Verified {
             number: number,
             yes: false,
         };
     }
-    let made = chained(k, message);
+    let made = last_of(t, s, u, ks, message);
     Verified {
         number: 0,
         yes: strings::equal(&made[..size], tag),
     }
+}
+
+// Makes a message's tag with the published set, whichever set the key names.
+pub fn make_published(k: WorkingKey, message: &[u8], dst: &mut [u8]) -> u8
+    ensures number { λ r. ⌜ r ≡ cmacRefusal (k .n) (length (now (dst .entry))) ⌝ }
+    ensures tag { λ r. ⌜ now (dst .exit) ≡ outcome r (madeTag (E article (k .n) (k .words)) (length (now (dst .entry))) (now (message .entry))) (now (dst .entry)) ⌝ }
+{
+    let n = k.n;
+    let t = table_cipher::table();
+    let s = table_cipher::substitution();
+    let u = table_cipher::inverse();
+    let ks = table_cipher::schedule(k, false);
+    make_lent(&t, &s, &u, n, &ks, message, dst)
+}
+
+// Verifies a given tag with the published set, whichever set the key names.
+pub fn verify_published(k: WorkingKey, message: &[u8], tag: &[u8]) -> Verified
+    ensures { λ r. ⌜ r ≡ verification (E article (k .n) (k .words)) (now (message .entry)) (now (tag .entry)) (cmacRefusal (k .n) (length (now (tag .entry)))) ⌝ }
+{
+    let n = k.n;
+    let t = table_cipher::table();
+    let s = table_cipher::substitution();
+    let u = table_cipher::inverse();
+    let ks = table_cipher::schedule(k, false);
+    verify_lent(&t, &s, &u, n, &ks, message, tag)
+}
+
+// Makes a message's tag, as long as dst: 15 if the set that the key names isn't loaded, right after 1. Set 0 goes its own way, and reads no
+// store.
+pub fn make(store: Store, k: WorkingKey, message: &[u8], dst: &mut [u8]) -> u8
+    ensures number { λ r. ⌜ r ≡ underKey (k .n) (loaded store (k .set)) (cmacRefusal (k .n) (length (now (dst .entry)))) ⌝ }
+    ensures tag { λ r. ⌜ now (dst .exit) ≡ outcome r (madeTag (E (partsIn store (k .set)) (k .n) (k .words)) (length (now (dst .entry))) (now (message .entry))) (now (dst .entry)) ⌝ }
+{
+    if k.set == 0 {
+        return make_published(k, message, dst);
+    }
+    let n = k.n;
+    let number = labyrinth::under_key(n, sets::is_loaded(store, k.set), 0);
+    if number != 0 {
+        return number;
+    }
+    let v = sets::set_in(store, k.set);
+    let s = v.substitution;
+    let g = v.row;
+    let t = table_cipher::table_of(g, &s);
+    let u = table_cipher::inverse_of(&s);
+    let ks = table_cipher::schedule(k, false);
+    make_lent(&t, &s, &u, n, &ks, message, dst)
+}
+
+// Verifies a given tag: a no with 15 if the set that the key names isn't loaded.
+pub fn verify(store: Store, k: WorkingKey, message: &[u8], tag: &[u8]) -> Verified
+    ensures { λ r. ⌜ r ≡ verification (E (partsIn store (k .set)) (k .n) (k .words)) (now (message .entry)) (now (tag .entry)) (underKey (k .n) (loaded store (k .set)) (cmacRefusal (k .n) (length (now (tag .entry))))) ⌝ }
+{
+    if k.set == 0 {
+        return verify_published(k, message, tag);
+    }
+    let n = k.n;
+    let number = labyrinth::under_key(n, sets::is_loaded(store, k.set), 0);
+    if number != 0 {
+        return Verified {
+            number: number,
+            yes: false,
+        };
+    }
+    let v = sets::set_in(store, k.set);
+    let s = v.substitution;
+    let g = v.row;
+    let t = table_cipher::table_of(g, &s);
+    let u = table_cipher::inverse_of(&s);
+    let ks = table_cipher::schedule(k, false);
+    verify_lent(&t, &s, &u, n, &ks, message, tag)
 }

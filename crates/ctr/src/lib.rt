@@ -3,6 +3,7 @@
 // What the block map needs is prepared once for a run, and lent to every block. Each inner function is stated over the block map m that
 // it gives.
 use labyrinth::WorkingKey;
+use sets::Store;
 ghost use mathlib.Core.Path.{_≡_};
 ghost use Prim.Native.Nat.{ℕ, _+_, _-_, _*_, _/_, _%_, _<_, _≤_};
 ghost use mathlib.Core.List.{List};
@@ -11,8 +12,10 @@ ghost use Rattle.forms.specs.Refusals.{outcome};
 ghost use Rattle.forms.specs.Strings.{xorBytes, number, string};
 ghost use Rattle.labyrinth.specs.Cipher.{article};
 ghost use Rattle.labyrinth.specs.Keys.{E};
+ghost use Rattle.labyrinth.specs.Refusals.{underKey};
 ghost use Rattle.labyrinth.specs.Working.{Size};
-ghost use Rattle.labyrinth.specs.Lent.{Lendable, Gives};
+ghost use Rattle.labyrinth.specs.Lent.{Lendable, lent, Gives};
+ghost use Rattle.sets.specs.Sets.{loaded, partsIn};
 ghost use Rattle.modes.specs.Ctr.{counter, ctr};
 ghost use Rattle.modes.specs.Refusals.{ctrRefusal};
 ghost use Rattle.ctr.specs.Counting.{counterBlocks};
@@ -145,20 +148,61 @@ fn ctr_run(
     from_counter(t, s, u, n, ks, &mut counter[..size], src, dst);
 }
 
-// Seals or opens src to dst, from block q of the run that start begins.
-pub fn run(k: WorkingKey, start: &[u8], q: u64, src: &[u8], dst: &mut [u8]) -> u8
-    ensures number { λ r. ⌜ r ≡ ctrRefusal (k .n) (length (now (start .entry))) (length (now (src .entry))) (length (now (dst .entry))) ⌝ }
-    ensures run { λ r. ⌜ now (dst .exit) ≡ outcome r (ctr (E article (k .n) (k .words)) (16 * k .n) (now (start .entry)) q (now (src .entry))) (now (dst .entry)) ⌝ }
+// Seals or opens src to dst, from block q of the run that start begins, with the tables lent.
+fn run_lent(
+    t: &[u64; 256],
+    s: &[u8; 256],
+    u: &[u8; 256],
+    n: usize,
+    ks: &[u64; 80],
+    start: &[u8],
+    q: u64,
+    src: &[u8],
+    dst: &mut [u8],
+) -> u8
+    requires { ⌜ Lendable (now t) ⌝ }
+    ensures number { λ r. ⌜ r ≡ ctrRefusal n (length (now (start .entry))) (length (now (src .entry))) (length (now (dst .entry))) ⌝ }
+    ensures run { λ r. ⌜ now (dst .exit) ≡ outcome r (ctr (lent n (now (t .entry)) (now (s .entry)) (now (u .entry)) (now (ks .entry))) (16 * n) (now (start .entry)) q (now (src .entry))) (now (dst .entry)) ⌝ }
 {
-    let n = k.n;
     let number = run_refusals::ctr_refusal(n, start.len(), src.len(), dst.len());
     if number != 0 {
         return number;
     }
+    ctr_run(t, s, u, n, ks, start, q, src, dst);
+    0
+}
+
+// Seals or opens src to dst, from block q of the run that start begins, with the published set, whichever set the key names.
+pub fn run_published(k: WorkingKey, start: &[u8], q: u64, src: &[u8], dst: &mut [u8]) -> u8
+    ensures number { λ r. ⌜ r ≡ ctrRefusal (k .n) (length (now (start .entry))) (length (now (src .entry))) (length (now (dst .entry))) ⌝ }
+    ensures run { λ r. ⌜ now (dst .exit) ≡ outcome r (ctr (E article (k .n) (k .words)) (16 * k .n) (now (start .entry)) q (now (src .entry))) (now (dst .entry)) ⌝ }
+{
+    let n = k.n;
     let t = table_cipher::table();
     let s = table_cipher::substitution();
     let u = table_cipher::inverse();
     let ks = table_cipher::schedule(k, false);
-    ctr_run(&t, &s, &u, n, &ks, start, q, src, dst);
-    0
+    run_lent(&t, &s, &u, n, &ks, start, q, src, dst)
+}
+
+// Seals or opens src to dst, from block q of the run that start begins: 15 if the set that the key names isn't loaded, right after 1. Set 0 goes its own way, and reads no store.
+pub fn run(store: Store, k: WorkingKey, start: &[u8], q: u64, src: &[u8], dst: &mut [u8]) -> u8
+    ensures number { λ r. ⌜ r ≡ underKey (k .n) (loaded store (k .set)) (ctrRefusal (k .n) (length (now (start .entry))) (length (now (src .entry))) (length (now (dst .entry)))) ⌝ }
+    ensures run { λ r. ⌜ now (dst .exit) ≡ outcome r (ctr (E (partsIn store (k .set)) (k .n) (k .words)) (16 * k .n) (now (start .entry)) q (now (src .entry))) (now (dst .entry)) ⌝ }
+{
+    if k.set == 0 {
+        return run_published(k, start, q, src, dst);
+    }
+    let n = k.n;
+    let number = labyrinth::under_key(n, sets::is_loaded(store, k.set), 0);
+    if number != 0 {
+        return number;
+    }
+    let v = sets::set_in(store, k.set);
+    let s = v.substitution;
+    let g = v.row;
+    let t = table_cipher::table_of(g, &s);
+    let u = table_cipher::inverse_of(&s);
+    let ks = table_cipher::schedule(k, false);
+    run_lent(&t, &s, &u, n, &ks, start, q, src, dst)
 }

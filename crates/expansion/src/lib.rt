@@ -4,6 +4,7 @@
 // The words grow in one array of 32 that starts as zeros, so the unused words are zero at the end.
 use labyrinth::Expanded;
 use labyrinth::WorkingKey;
+use sets::Store;
 ghost use mathlib.Core.Path.{_≡_};
 ghost use mathlib.Core.List.{List, [], _++_};
 ghost use Prim.Native.Nat.{ℕ, _+_, _-_, _*_, _≤_, _<_};
@@ -13,8 +14,9 @@ ghost use Rattle.forms.specs.Words.{words};
 ghost use Rattle.field.specs.Merged.{lookup};
 ghost use Rattle.labyrinth.specs.Cipher.{article};
 ghost use Rattle.labyrinth.specs.Keys.{half, register, delta, expandedWords};
-ghost use Rattle.labyrinth.specs.Refusals.{expandRefusal, expansion, padded};
-ghost use Rattle.labyrinth.specs.Working.{Size, fourWords};
+ghost use Rattle.labyrinth.specs.Refusals.{expandRefusal, underLength, expansion, padded};
+ghost use Rattle.labyrinth.specs.Working.{Size, Taken, fourWords};
+ghost use Rattle.sets.specs.Sets.{loaded, partsIn};
 
 // Where word i of half-block k_j stands.
 fn place(n: usize, j: usize, i: usize) -> usize
@@ -134,30 +136,63 @@ fn grow(t: &[u64; 256], n: usize, l: usize, key: [u64; 32]) -> [u64; 32]
 
 // A refused key.
 fn refused(number: u8) -> Expanded
-    ensures { λ r. ⌜ r ≡ record { number = number; key = record { n = 0; words = padded [] } } ⌝ }
+    ensures { λ r. ⌜ r ≡ record { number = number; key = record { n = 0; set = 0; words = padded [] } } ⌝ }
 {
     Expanded {
         number: number,
         key: WorkingKey {
             n: 0,
+            set: 0,
             words: [0; 32],
         },
     }
 }
 
-// Expands a key of l half-blocks to a working key of size n: 1 if n isn't 1, 2 or 4, 2 if l isn't 2, 3 or 4, 3 if the key
-// isn't 8nl bytes.
-pub fn expand(n: usize, l: usize, key: &[u8]) -> Expanded
-    ensures { λ r. ⌜ r ≡ expansion (article .SM) n l (now (key .entry)) (expandRefusal n l (length (now (key .entry)))) ⌝ }
+// Expands a key that is taken, with the merged table lent.
+fn expand_by(t: &[u64; 256], n: usize, l: usize, set: usize, key: &[u8]) -> Expanded
+    requires { ⌜ Taken n l (length (now key)) ⌝ }
+    ensures { λ r. ⌜ r ≡ record { number = 0; key = record { n = n; set = set; words = padded (expandedWords (lookup (now (t .entry))) n l (now (key .entry))) } } ⌝ }
+{
+    let w = grow(t, n, l, load_key(n * l, key));
+    Expanded {
+        number: 0,
+        key: WorkingKey {
+            n: n,
+            set: set,
+            words: w,
+        },
+    }
+}
+
+// Expands a key of l half-blocks to a working key of size n, for the published set: 1 if n isn't 1, 2 or 4, 2 if l isn't 2, 3 or 4, 3 if the
+// key isn't 8nl bytes.
+pub fn expand_published(n: usize, l: usize, key: &[u8]) -> Expanded
+    ensures { λ r. ⌜ r ≡ expansion (article .SM) 0 n l (now (key .entry)) (expandRefusal n l (length (now (key .entry)))) ⌝ }
 {
     let number = labyrinth::expand_refusal(n, l, key.len());
     if number != 0 {
         return refused(number);
     }
     let t = tables::merged_table();
-    let w = grow(&t, n, l, load_key(n * l, key));
-    Expanded {
-        number: 0,
-        key: WorkingKey { n: n, words: w },
+    expand_by(&t, n, l, 0, key)
+}
+
+// Expands a key for a set of a store, which the working key then names: 15 if it isn't loaded, right after 2. Set 0 goes its own way, and
+// reads no store.
+pub fn expand(store: Store, n: usize, l: usize, set: usize, key: &[u8]) -> Expanded
+    ensures { λ r. ⌜ r ≡ expansion (partsIn store set .SM) set n l (now (key .entry)) (underLength n l (loaded store set) (expandRefusal n l (length (now (key .entry))))) ⌝ }
+{
+    if set == 0 {
+        return expand_published(n, l, key);
     }
+    let own = labyrinth::expand_refusal(n, l, key.len());
+    let number = labyrinth::under_length(n, l, sets::is_loaded(store, set), own);
+    if number != 0 {
+        return refused(number);
+    }
+    let v = sets::set_in(store, set);
+    let s = v.substitution;
+    let g = v.row;
+    let t = rows::table_of(g, &s);
+    expand_by(&t, n, l, set, key)
 }

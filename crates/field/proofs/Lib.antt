@@ -6,5 +6,6 @@ pub mod Scale
 pub mod Mixing
 pub mod Eight
 pub mod Substitution
+pub mod Different
 pub mod Merged
 pub mod TimesX

@@ -1,6 +1,7 @@
 -- The substitution (the article's section 3.7). It is a list s of 256 bytes: the published one, Table 1, stands in Published.
 -- Assumes nothing.
-use Prim.Native.Nat.{ℕ, suc}
+use mathlib.Core.Path.{_≡_}
+use Prim.Native.Nat.{ℕ, suc, _^_, _<_}
 use mathlib.Core.Bool.{Bool, true, false, _&&_}
 use mathlib.Core.List.{List, [], _∷_}
 use lib.Dec.{eqb}
@@ -24,3 +25,7 @@ invert s = tabulate 256 (subInv s)
 -- document 02, Job 7: '256 different bytes'
 unfoldable pub different : List ℕ → Bool
 different s = eqb (length s) 256 && (below 256 s && distinct s)
+
+-- the same in plain terms
+abbrev pub Different : List ℕ → Type 0
+Different s = (length s ≡ 256) × ((i : ℕ) → getD s i 0 < 2 ^ 8) × ((i j : ℕ) → i < 256 → j < 256 → getD s i 0 ≡ getD s j 0 → i ≡ j)

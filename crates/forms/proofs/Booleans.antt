@@ -1,11 +1,11 @@
 -- Laws of tests and of what they choose.
 -- Assumes nothing.
 use mathlib.Core.Path.{_≡_, refl, sym, _∙_}
-use mathlib.Core.Bool.{Bool, true, false, _&&_, _||_, false≢true}
+use mathlib.Core.Bool.{Bool, true, false, not, _&&_, _||_, false≢true}
 use mathlib.Core.Logic.{_⊎_, inl, inr, ⊎-map, _↔_}
 use Prim.Native.Nat.{ℕ, _≤_, _<_}
-use borrow.Author.Tests.{eq-eqb, ne-eqb, eqb-true, le-leb, leb-true, leb-false, lt-leb}
-use lib.Dec.{eqb, leb}
+use borrow.Author.Tests.{eq-eqb, ne-eqb, eqb-true, lt-ltb, ltb-true, le-leb, leb-true, leb-false, lt-leb}
+use lib.Dec.{eqb, ltb, leb}
 use Rattle.forms.specs.Lists.{when}
 
 pub or-true : (a b : Bool) → (a || b) ≡ true → (a ≡ true) ⊎ (b ≡ true)
@@ -74,3 +74,27 @@ when-all P false f g = g refl
 pub and-true : (t : Bool) → (t && true) ≡ t
 and-true true = refl
 and-true false = refl
+
+pub or-neither : (a b : Bool) → (a || b) ≡ false → (a ≡ false) × (b ≡ false)
+or-neither true b e = absurd (false≢true (sym e))
+or-neither false b e = (refl, e)
+
+pub false-unless : (b : Bool) → (b ≡ true → ⊥) → b ≡ false
+false-unless true h = absurd (h refl)
+false-unless false h = refl
+
+-- ---- what tests say in plain terms
+
+pub ltb-iff : (a b : ℕ) → (ltb a b ≡ true) ↔ (a < b)
+ltb-iff a b = (ltb-true a b, lt-ltb a b)
+
+module _ {A B : Type 0} (a b : Bool) (p : (a ≡ true) ↔ A) (q : (b ≡ true) ↔ B) where
+  pub and-iff : ((a && b) ≡ true) ↔ (A × B)
+  and-iff = (λ e. let h = and-both a b e in (p .0 (h .0), q .0 (h .1)), λ h. rw (p .1 (h .0), q .1 (h .1)))
+
+  pub or-iff : ((a || b) ≡ true) ↔ (A ⊎ B)
+  or-iff = (λ e. ⊎-map (p .0) (q .0) (or-true a b e), λ h. true-or a b (⊎-map (p .1) (q .1) h))
+
+pub not-iff : {A : Type 0} (a : Bool) → ((a ≡ true) ↔ A) → (not a ≡ true) ↔ (A → ⊥)
+not-iff true p = (λ e h. false≢true e, λ h. absurd (h (p .0 refl)))
+not-iff false p = (λ e h. false≢true (p .1 h), λ h. refl)

@@ -5,6 +5,7 @@ pub mod Twice
 pub mod Xor
 pub mod Sums
 pub mod Lists
+pub mod Different
 pub mod Parts
 pub mod Words
 pub mod Bytes

@@ -7,6 +7,7 @@ use Prim.Native.Nat.{ℕ, _*_}
 use lib.ListN.{length}
 use Rattle.forms.specs.Refusals.{outcome}
 use Rattle.forms.specs.Words.{eachByte}
+use Rattle.forms.proofs.Refusals.{outcome-cong}
 use Rattle.forms.proofs.Words.{OnBytes}
 use Rattle.forms.proofs.Bytes.{Bytes}
 use Rattle.field.specs.Substitution.{sub}
@@ -45,7 +46,12 @@ module _ {s₀ g : List ℕ} {back : Bool} {n : ℕ} {ws t s u ks : List ℕ} (p
     pub by-eight : {x : List ℕ} → x ≡ eightTables t → Size n → Gives (way (partsOf s₀ g) back n ws) n x s u ks
     by-eight e = handed-gives (handed-eight (p .table) e)
 
-    -- so in an operation on one block, which refuses an illegal n
+    -- so in a run, which refuses an illegal n
+    pub run-by-one : (run : (List ℕ → List ℕ) → List ℕ) (old : List ℕ) {r : ℕ} {d : List ℕ} → (r ≡ 0 → Size n) → d ≡ outcome r (run (lent n t s u ks)) old
+        → d ≡ outcome r (run (way (partsOf s₀ g) back n ws)) old
+    run-by-one run old size e = e ∙ outcome-cong _ _ _ old (λ z. ap run (by-one (size z)))
+
+    -- and in an operation on one block
     pub block-by-one : (src dst : List ℕ) {r : ℕ} {d : List ℕ} → r ≡ lentRefusal n (length src) (length dst) (length t) → d ≡ outcome r (lent n t s u ks src) dst
         → (r ≡ blockRefusal n (length src) (length dst)) × (d ≡ outcome r (way (partsOf s₀ g) back n ws src) dst)
     unfolding lent
@@ -58,6 +64,11 @@ module _ {back : Bool} {n : ℕ} {ws t s u ks : List ℕ} (p : ArticlePrepared b
   pub article-by-one : Size n → Gives (way article back n ws) n t s u ks
   unfolding article
   article-by-one = by-one p (table1-undo .there)
+
+  pub article-run-by-one : (run : (List ℕ → List ℕ) → List ℕ) (old : List ℕ) {r : ℕ} {d : List ℕ} → (r ≡ 0 → Size n) → d ≡ outcome r (run (lent n t s u ks)) old
+      → d ≡ outcome r (run (way article back n ws)) old
+  unfolding article
+  article-run-by-one = run-by-one p (table1-undo .there)
 
   pub article-by-eight : {x : List ℕ} → x ≡ eightTables t → Size n → Gives (way article back n ws) n x s u ks
   unfolding article

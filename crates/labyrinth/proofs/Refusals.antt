@@ -9,7 +9,7 @@ use lib.Dec.{eqb}
 use Rattle.forms.specs.Refusals.{unless, Unless}
 use Rattle.forms.proofs.Refusals.{unless-plain, unless-three}
 use Rattle.forms.proofs.Booleans.{eqb-iff, one-of}
-use Rattle.labyrinth.specs.Working.{Size}
+use Rattle.labyrinth.specs.Working.{Size, Taken}
 use Rattle.labyrinth.specs.Refusals.{legal, legalLength, Legal, LegalLength, blockRefusal, expandRefusal, underKey, underLength}
 use Rattle.labyrinth.proofs.Sizes.{size-one, size-two, size-four}
 
@@ -54,12 +54,6 @@ pub expand-iff : (n l k : ℕ) → (expandRefusal n l k ≡ 0) ↔ (Legal n × L
 expand-iff n l k = unless-three (expand-number n l k refl)
 
 -- what a key that is taken has
-pub record Taken (n l k : ℕ) : Type 0 where
-  pub size : Size n
-  pub low : 2 ≤ l
-  pub top : l ≤ 4
-  pub len : k ≡ 8 * (n * l)
-
 pub key-taken : (n l k : ℕ) {r : ℕ} → r ≡ expandRefusal n l k → r ≡ 0 → Taken n l k
 key-taken n l k p e =
     let h = expand-iff n l k .0 (sym p ∙ e) in

@@ -24,6 +24,13 @@ pub record Size (n : ℕ) : Type 0 where
   pub top : n ≤ 4
   pub notThree : n ≡ 3 → ⊥
 
+-- what a key of k bytes that is taken has
+pub record Taken (n l k : ℕ) : Type 0 where
+  pub size : Size n
+  pub low : 2 ≤ l
+  pub top : l ≤ 4
+  pub len : k ≡ 8 * (n * l)
+
 -- a list of at most four words, with zeros behind it
 unfoldable pub fourWords : List ℕ → List ℕ
 fourWords x = take 4 (x ++ replicate 4 0)

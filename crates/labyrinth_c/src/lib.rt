@@ -26,11 +26,11 @@ pub extern "C" fn labyrinth_encipher(
     ensures number { λ r. ⌜ r ≡ numberOf n l (now (key .entry)) (blockRefusal n (length (now (src .entry))) (length (now (dst .entry)))) ⌝ }
     ensures block { λ r. ⌜ now (dst .exit) ≡ outcome r (E article n (keyOf n l (now (key .entry)) .words) (now (src .entry))) (now (dst .entry)) ⌝ }
 {
-    let x = expansion::expand(n, l, key);
+    let x = expansion::expand_published(n, l, key);
     if x.number != 0 {
         return x.number;
     }
-    table_cipher::encipher_by_table(x.key, src, dst)
+    table_cipher::encipher_published(x.key, src, dst)
 }
 
 // Deciphers a block.
@@ -45,11 +45,11 @@ pub extern "C" fn labyrinth_decipher(
     ensures number { λ r. ⌜ r ≡ numberOf n l (now (key .entry)) (blockRefusal n (length (now (src .entry))) (length (now (dst .entry)))) ⌝ }
     ensures block { λ r. ⌜ now (dst .exit) ≡ outcome r (U article n (keyOf n l (now (key .entry)) .words) (now (src .entry))) (now (dst .entry)) ⌝ }
 {
-    let x = expansion::expand(n, l, key);
+    let x = expansion::expand_published(n, l, key);
     if x.number != 0 {
         return x.number;
     }
-    table_cipher::decipher_by_table(x.key, src, dst)
+    table_cipher::decipher_published(x.key, src, dst)
 }
 
 // Seals whole blocks by CBC.
@@ -65,11 +65,11 @@ pub extern "C" fn labyrinth_cbc_seal(
     ensures number { λ r. ⌜ r ≡ numberOf n l (now (key .entry)) (cbcRefusal n (length (now (start .entry))) (length (now (src .entry))) (length (now (dst .entry)))) ⌝ }
     ensures run { λ r. ⌜ now (dst .exit) ≡ outcome r (cbcSeal (E article n (keyOf n l (now (key .entry)) .words)) (16 * n) (now (start .entry)) (now (src .entry))) (now (dst .entry)) ⌝ }
 {
-    let x = expansion::expand(n, l, key);
+    let x = expansion::expand_published(n, l, key);
     if x.number != 0 {
         return x.number;
     }
-    cbc::seal(x.key, start, src, dst)
+    cbc::seal_published(x.key, start, src, dst)
 }
 
 // Opens whole blocks by CBC.
@@ -85,11 +85,11 @@ pub extern "C" fn labyrinth_cbc_open(
     ensures number { λ r. ⌜ r ≡ numberOf n l (now (key .entry)) (cbcRefusal n (length (now (start .entry))) (length (now (src .entry))) (length (now (dst .entry)))) ⌝ }
     ensures run { λ r. ⌜ now (dst .exit) ≡ outcome r (cbcOpen (U article n (keyOf n l (now (key .entry)) .words)) (16 * n) (now (start .entry)) (now (src .entry))) (now (dst .entry)) ⌝ }
 {
-    let x = expansion::expand(n, l, key);
+    let x = expansion::expand_published(n, l, key);
     if x.number != 0 {
         return x.number;
     }
-    cbc::open(x.key, start, src, dst)
+    cbc::open_published(x.key, start, src, dst)
 }
 
 // Seals or opens by CTR, from block q on.
@@ -106,11 +106,11 @@ pub extern "C" fn labyrinth_ctr(
     ensures number { λ r. ⌜ r ≡ numberOf n l (now (key .entry)) (ctrRefusal n (length (now (start .entry))) (length (now (src .entry))) (length (now (dst .entry)))) ⌝ }
     ensures run { λ r. ⌜ now (dst .exit) ≡ outcome r (ctr (E article n (keyOf n l (now (key .entry)) .words)) (16 * n) (now (start .entry)) q (now (src .entry))) (now (dst .entry)) ⌝ }
 {
-    let x = expansion::expand(n, l, key);
+    let x = expansion::expand_published(n, l, key);
     if x.number != 0 {
         return x.number;
     }
-    ctr::run(x.key, start, q, src, dst)
+    ctr::run_published(x.key, start, q, src, dst)
 }
 
 // Makes a message's tag at n = 1, as long as tag.
@@ -119,11 +119,11 @@ pub extern "C" fn labyrinth_cmac(l: usize, key: &[u8], message: &[u8], tag: &mut
     ensures number { λ r. ⌜ r ≡ numberOf 1 l (now (key .entry)) (cmacRefusal 1 (length (now (tag .entry)))) ⌝ }
     ensures tag { λ r. ⌜ now (tag .exit) ≡ outcome r (madeTag (E article 1 (keyOf 1 l (now (key .entry)) .words)) (length (now (tag .entry))) (now (message .entry))) (now (tag .entry)) ⌝ }
 {
-    let x = expansion::expand(1, l, key);
+    let x = expansion::expand_published(1, l, key);
     if x.number != 0 {
         return x.number;
     }
-    cmac::make(x.key, message, tag)
+    cmac::make_published(x.key, message, tag)
 }
 
 // Verifies a given tag at n = 1. Every call sets yes.
@@ -138,12 +138,12 @@ pub extern "C" fn labyrinth_cmac_verify(
     ensures number { λ r. ⌜ r ≡ numberOf 1 l (now (key .entry)) (cmacRefusal 1 (length (now (tag .entry)))) ⌝ }
     ensures yes { λ r. ⌜ now (yes .exit) ≡ yesByte r (valid (E article 1 (keyOf 1 l (now (key .entry)) .words)) (now (message .entry)) (now (tag .entry))) ⌝ }
 {
-    let x = expansion::expand(1, l, key);
+    let x = expansion::expand_published(1, l, key);
     if x.number != 0 {
         *yes = 0;
         return x.number;
     }
-    let v = cmac::verify(x.key, message, tag);
+    let v = cmac::verify_published(x.key, message, tag);
     *yes = one_shot::as_byte(v.yes);
     v.number
 }

@@ -1,12 +1,14 @@
 // Enciphering and deciphering a block by the substitution and the matrix, under a working key. No merged table occurs here.
 use labyrinth::WorkingKey;
+use sets::Store;
 ghost use mathlib.Core.Path.{_≡_};
 ghost use lib.ListN.{length};
 ghost use Rattle.forms.specs.Refusals.{outcome};
 ghost use Rattle.labyrinth.specs.Cipher.{article};
 ghost use Rattle.labyrinth.specs.Keys.{E, U};
-ghost use Rattle.labyrinth.specs.Refusals.{blockRefusal};
+ghost use Rattle.labyrinth.specs.Refusals.{blockRefusal, underKey};
 ghost use Rattle.labyrinth.specs.Working.{matrixParts, lineBytes, way};
+ghost use Rattle.sets.specs.Sets.{loaded, partsIn};
 
 // Maps a block under a schedule, by a substitution s, its inverse u and a matrix m.
 fn apply_matrix(
@@ -31,7 +33,7 @@ fn apply_matrix(
 }
 
 // One way or the other by the published matrix.
-fn by_matrix(k: WorkingKey, back: bool, src: &[u8], dst: &mut [u8]) -> u8
+fn by_published(k: WorkingKey, back: bool, src: &[u8], dst: &mut [u8]) -> u8
     ensures number { λ r. ⌜ r ≡ blockRefusal (k .n) (length (now (src .entry))) (length (now (dst .entry))) ⌝ }
     ensures block { λ r. ⌜ now (dst .exit) ≡ outcome r (way article back (k .n) (k .words) (now (src .entry))) (now (dst .entry)) ⌝ }
 {
@@ -43,18 +45,41 @@ fn by_matrix(k: WorkingKey, back: bool, src: &[u8], dst: &mut [u8]) -> u8
     apply_matrix(m, &s, &u, n, &ks, src, dst)
 }
 
-// Enciphers a block by the matrix.
-pub fn encipher_by_matrix(k: WorkingKey, src: &[u8], dst: &mut [u8]) -> u8
-    ensures number { λ r. ⌜ r ≡ blockRefusal (k .n) (length (now (src .entry))) (length (now (dst .entry))) ⌝ }
-    ensures block { λ r. ⌜ now (dst .exit) ≡ outcome r (E article (k .n) (k .words) (now (src .entry))) (now (dst .entry)) ⌝ }
+// One way or the other by the matrix of the set that the key names: 15 if it isn't loaded, right after 1. Set 0 goes its own way, and reads
+// no store.
+fn by_matrix(store: Store, k: WorkingKey, back: bool, src: &[u8], dst: &mut [u8]) -> u8
+    ensures number { λ r. ⌜ r ≡ underKey (k .n) (loaded store (k .set)) (blockRefusal (k .n) (length (now (src .entry))) (length (now (dst .entry)))) ⌝ }
+    ensures block { λ r. ⌜ now (dst .exit) ≡ outcome r (way (partsIn store (k .set)) back (k .n) (k .words) (now (src .entry))) (now (dst .entry)) ⌝ }
 {
-    by_matrix(k, false, src, dst)
+    if k.set == 0 {
+        return by_published(k, back, src, dst);
+    }
+    let n = k.n;
+    let number = labyrinth::under_key(n, sets::is_loaded(store, k.set), 0);
+    if number != 0 {
+        return number;
+    }
+    let v = sets::set_in(store, k.set);
+    let s = v.substitution;
+    let g = v.row;
+    let m = mixing::matrix(g);
+    let u = sets::inverse(&s);
+    let ks = schedule::schedule(k, back);
+    apply_matrix(m, &s, &u, n, &ks, src, dst)
+}
+
+// Enciphers a block by the matrix.
+pub fn encipher_by_matrix(store: Store, k: WorkingKey, src: &[u8], dst: &mut [u8]) -> u8
+    ensures number { λ r. ⌜ r ≡ underKey (k .n) (loaded store (k .set)) (blockRefusal (k .n) (length (now (src .entry))) (length (now (dst .entry)))) ⌝ }
+    ensures block { λ r. ⌜ now (dst .exit) ≡ outcome r (E (partsIn store (k .set)) (k .n) (k .words) (now (src .entry))) (now (dst .entry)) ⌝ }
+{
+    by_matrix(store, k, false, src, dst)
 }
 
 // Deciphers a block by the matrix.
-pub fn decipher_by_matrix(k: WorkingKey, src: &[u8], dst: &mut [u8]) -> u8
-    ensures number { λ r. ⌜ r ≡ blockRefusal (k .n) (length (now (src .entry))) (length (now (dst .entry))) ⌝ }
-    ensures block { λ r. ⌜ now (dst .exit) ≡ outcome r (U article (k .n) (k .words) (now (src .entry))) (now (dst .entry)) ⌝ }
+pub fn decipher_by_matrix(store: Store, k: WorkingKey, src: &[u8], dst: &mut [u8]) -> u8
+    ensures number { λ r. ⌜ r ≡ underKey (k .n) (loaded store (k .set)) (blockRefusal (k .n) (length (now (src .entry))) (length (now (dst .entry)))) ⌝ }
+    ensures block { λ r. ⌜ now (dst .exit) ≡ outcome r (U (partsIn store (k .set)) (k .n) (k .words) (now (src .entry))) (now (dst .entry)) ⌝ }
 {
-    by_matrix(k, true, src, dst)
+    by_matrix(store, k, true, src, dst)
 }

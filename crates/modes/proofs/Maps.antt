@@ -44,3 +44,6 @@ module _ (p : Parts) (n : ℕ) (ws : List ℕ) where
 -- at n = 1 a block has 16 bytes
 pub keeps-one : (p : Parts) (n : ℕ) (ws : List ℕ) → n ≡ 1 → Keeps 16 (E p n ws)
 keeps-one p n ws e = subst (λ (k : ℕ). Keeps (16 * k) (E p n ws)) e (keeps-E p n ws)
+
+pub keeps-lent-one : (n : ℕ) (t s u ks : List ℕ) → n ≡ 1 → Keeps 16 (lent n t s u ks)
+keeps-lent-one n t s u ks e = subst (λ (k : ℕ). Keeps (16 * k) (lent n t s u ks)) e (keeps-lent n t s u ks)

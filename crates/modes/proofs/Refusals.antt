@@ -99,9 +99,24 @@ cmac-iff n t =
 
 -- what a tag that is taken has
 pub record Cmac-taken (n t : ℕ) : Type 0 where
+  pub size : Size n
   pub one : n ≡ 1
   pub low : 8 ≤ t
   pub top : t ≤ 16
 
 pub cmac-taken : (n t : ℕ) {r : ℕ} → r ≡ cmacRefusal n t → r ≡ 0 → Cmac-taken n t
-cmac-taken n t p e = let h = cmac-iff n t .0 (sym p ∙ e) in record { one = h .0; low = h .1; top = h .2 }
+cmac-taken n t p e = let h = cmac-iff n t .0 (sym p ∙ e) in record { size = legal-size-of n (legal-iff n .1 (inl (h .0))); one = h .0; low = h .1; top = h .2 }
+
+-- ---- each says 1 for an illegal n itself
+
+pub cbc-one : (n start s d : ℕ) → legal n ≡ false → cbcRefusal n start s d ≡ 1
+unfolding cbcRefusal
+cbc-one n start s d e = rw e
+
+pub ctr-one : (n start s d : ℕ) → legal n ≡ false → ctrRefusal n start s d ≡ 1
+unfolding ctrRefusal
+ctr-one n start s d e = rw e
+
+pub cmac-one : (n t : ℕ) → legal n ≡ false → cmacRefusal n t ≡ 1
+unfolding cmacRefusal
+cmac-one n t e = rw e

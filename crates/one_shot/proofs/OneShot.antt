@@ -41,15 +41,15 @@ number-plain n l key operation {r} e = by-first (first-plain (expandRefusal n l 
     by-first (inr u) = let t = expand-iff n l (length key) .0 (u .0) in inr (t .0, inr (t .1, inr (t .2, u .1)))
 
 -- of an expansion that passed the size
-size-of : (SM : ℕ → ℕ) (n l : ℕ) (key : List ℕ) (r : ℕ) → r ≡ 0 → expansion SM n l key r .key .n ≡ n
+size-of : (SM : ℕ → ℕ) (n l : ℕ) (key : List ℕ) (r : ℕ) → r ≡ 0 → expansion SM 0 n l key r .key .n ≡ n
 unfolding expansion
 size-of SM n l key zero e = refl
 size-of SM n l key (suc r) e = let f : ⊥ = omega arith in absurd f
 
 -- what an expansion answered
-module _ (n l : ℕ) (key : List ℕ) {x : Expanded} (e : x ≡ expansion (article .SM) n l key (expandRefusal n l (length key))) where
+module _ (n l : ℕ) (key : List ℕ) {x : Expanded} (e : x ≡ expansion (article .SM) 0 n l key (expandRefusal n l (length key))) where
   number-is : x .number ≡ expandRefusal n l (length key)
-  number-is = ap (λ (y : Expanded). y .number) e ∙ expansion-number (article .SM) n l key (expandRefusal n l (length key))
+  number-is = ap (λ (y : Expanded). y .number) e ∙ expansion-number (article .SM) 0 n l key (expandRefusal n l (length key))
 
   refused-number : (x .number ≡ 0 → ⊥) → (operation : ℕ) → x .number ≡ numberOf n l key operation
   refused-number h operation = number-is ∙ first-refused _ operation (λ z. h (number-is ∙ z))
@@ -70,7 +70,7 @@ module _ (n l : ℕ) (key : List ℕ) (operation : ℕ → ℕ) (result : ℕ �
   abbrev pub Done : ℕ → List ℕ → Type 0
   Done number after = (number ≡ numberOf n l key (operation n)) × (after ≡ outcome number (result n (keyOf n l key .words)) before)
 
-  module _ {x : Expanded} (e : x ≡ expansion (article .SM) n l key (expandRefusal n l (length key))) where
+  module _ {x : Expanded} (e : x ≡ expansion (article .SM) 0 n l key (expandRefusal n l (length key))) where
     pub key-refused : (x .number ≡ 0 → ⊥) → Done (x .number) before
     key-refused h = (refused-number n l key e h (operation n), refused-keeps (x .number) _ before h)
 
@@ -92,7 +92,7 @@ module _ (n l : ℕ) (key message given : List ℕ) where
   told-yes e zero = refl
   told-yes e (suc r) = refl
 
-  module _ {x : Expanded} (e : x ≡ expansion (article .SM) n l key (expandRefusal n l (length key))) where
+  module _ {x : Expanded} (e : x ≡ expansion (article .SM) 0 n l key (expandRefusal n l (length key))) where
     pub verify-refused : (x .number ≡ 0 → ⊥) → Told (x .number) 0
     verify-refused h = (refused-number n l key e h (cmacRefusal n (length given)), none (x .number) (valid (E article n (keyOf n l key .words)) message given) h)
       where

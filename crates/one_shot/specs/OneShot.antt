@@ -16,7 +16,7 @@ use Rattle.labyrinth.specs.Refusals.{expandRefusal, expansion}
 
 -- the working key that a key expands to; n = 0 and zeros if it is refused
 unfoldable pub keyOf : ℕ → ℕ → List ℕ → WorkingKey
-keyOf n l key = expansion (article .SM) n l key (expandRefusal n l (length key)) .key
+keyOf n l key = expansion (article .SM) 0 n l key (expandRefusal n l (length key)) .key
 
 -- expansion's number, or if it is 0 the operation's
 abbrev pub numberOf : ℕ → ℕ → List ℕ → ℕ → ℕ

@@ -34,6 +34,9 @@ not-zero : (g : List ℕ) → accepted g ≡ true → rowSum g ≡ 0 → ⊥
 unfolding accepted
 not-zero g t = eqb-false (rowSum g) 0 (not-true (eqb (rowSum g) 0) t)
 
+pub accepted-iff : (g : List ℕ) → (accepted g ≡ true) ↔ (rowSum g ≡ 0 → ⊥)
+accepted-iff g = (not-zero g, taken g)
+
 -- mixing: 13 exactly where the coefficients XOR to zero, else 0
 pub row-zero : (g : List ℕ) → rowSum g ≡ 0 → rowRefusal g ≡ 13
 unfolding rowRefusal

@@ -3,14 +3,14 @@
 -- Assumes nothing.
 use mathlib.Core.Path.{_≡_}
 use mathlib.Core.Logic.{_⊎_}
-use Prim.Native.Nat.{ℕ, zero, suc, _^_, _<_}
-use mathlib.Core.Bool.{Bool, true, false, not, _&&_, _||_}
+use Prim.Native.Nat.{ℕ, zero, suc, _<_}
+use mathlib.Core.Bool.{Bool, not, _&&_, _||_}
 use mathlib.Core.List.{List, [], _∷_}
 use lib.Dec.{eqb, ltb}
-use lib.ListN.{getD, set, length, replicate}
+use lib.ListN.{getD, set, replicate}
 use Rattle.forms.specs.Lists.{when}
 use Rattle.forms.specs.Refusals.{unless}
-use Rattle.field.specs.Substitution.{different}
+use Rattle.field.specs.Substitution.{different, Different}
 use Rattle.field.specs.Mixing.{rowSum}
 use Rattle.field.specs.Published as article
 use Rattle.labyrinth.specs.Cipher.{Parts, partsOf}
@@ -69,10 +69,7 @@ held store i = eqb i 0 || (hasTaken store 0 i || hasTaken store 1 i)
 unfoldable pub freshStore : Store
 freshStore = record { sets = published ∷ blank ∷ blank ∷ blank ∷ []; taken = 4 ∷ 4 ∷ [] }
 
--- the same in plain terms: a list of 256 different bytes, a loaded set, a held one
-abbrev pub Different : List ℕ → Type 0
-Different s = (length s ≡ 256) × ((i : ℕ) → getD s i 0 < 2 ^ 8) × ((i j : ℕ) → i < 256 → j < 256 → getD s i 0 ≡ getD s j 0 → i ≡ j)
-
+-- the same in plain terms: a loaded set, a held one
 abbrev pub Loaded : Store → ℕ → Type 0
 Loaded store i = (i ≡ 0) ⊎ ((i < 4) × Different (substitutionIn store i) × (rowSum (rowIn store i) ≡ 0 → ⊥))
 

@@ -171,25 +171,40 @@ pub fn load(store: Store, publisher: usize, i: usize, substitution: &[u8], row: 
     ensures { λ r. ⌜ r ≡ spec.load store publisher i (now (substitution .entry)) row ⌝ }
 {
     if 1 < publisher {
-        return Changed { number: 15, store: store };
+        return Changed {
+            number: 15,
+            store: store,
+        };
     }
     if 3 < i {
-        return Changed { number: 15, store: store };
+        return Changed {
+            number: 15,
+            store: store,
+        };
     }
     let number = set_refusal(substitution, row);
     if number != 0 {
-        return Changed { number: number, store: store };
+        return Changed {
+            number: number,
+            store: store,
+        };
     }
     if is_held(store, i) {
-        return Changed { number: 16, store: store };
+        return Changed {
+            number: 16,
+            store: store,
+        };
     }
     let s = copied(substitution);
-    let mut r = store;
-    r.sets[i] = Set {
+    let mut filled = store;
+    filled.sets[i] = Set {
         substitution: s,
         row: row,
     };
-    Changed { number: 0, store: r }
+    Changed {
+        number: 0,
+        store: filled,
+    }
 }
 
 // A publisher takes set i, and so drops the one that it had taken: 15 if there is no such publisher or set, or the set isn't loaded.
@@ -197,14 +212,23 @@ pub fn take(store: Store, publisher: usize, i: usize) -> Changed
     ensures { λ r. ⌜ r ≡ spec.take store publisher i ⌝ }
 {
     if 1 < publisher {
-        return Changed { number: 15, store: store };
+        return Changed {
+            number: 15,
+            store: store,
+        };
     }
     if !is_loaded(store, i) {
-        return Changed { number: 15, store: store };
+        return Changed {
+            number: 15,
+            store: store,
+        };
     }
-    let mut r = store;
-    r.taken[publisher] = i;
-    Changed { number: 0, store: r }
+    let mut moved = store;
+    moved.taken[publisher] = i;
+    Changed {
+        number: 0,
+        store: moved,
+    }
 }
 
 // ---- what a set's tables are made of
@@ -214,11 +238,11 @@ pub fn inverse(s: &[u8; 256]) -> [u8; 256]
     ensures { λ r. ⌜ r ≡ inverseBytes (now (s .entry)) ⌝ }
 {
     let mut r = [0u8; 256];
-    let mut i = 256usize;
-    while 0 < i {
-        i -= 1;
-        let x = place(s[i]);
-        r[x] = i as u8;
+    let mut at = 256usize;
+    while 0 < at {
+        at -= 1;
+        let x = place(s[at]);
+        r[x] = at as u8;
     }
     r
 }

@@ -1,8 +1,9 @@
 // The block map by the merged table: what it needs is prepared once for a working key, and lent to every block.
 //
-// A run prepares `table`, `substitution`, `inverse` and `schedule`. One block goes by `map_block`; many go by `many_blocks` or, where each hangs
+// A run prepares `table`, `substitution`, `inverse` and `schedule`; for another set than the published one `table_of` and `inverse_of`. One block goes by `map_block`; many go by `many_blocks` or, where each hangs
 // on the one before, by `chains`, which are lent the same four. That these give E and U is a law of labyrinth's, `by-one`.
 use labyrinth::WorkingKey;
+use sets::Store;
 ghost use mathlib.Core.Path.{_≡_};
 ghost use lib.ListN.{length};
 ghost use Rattle.field.specs.Substitution.{invert};
@@ -11,10 +12,12 @@ ghost use Rattle.field.specs.Published as published;
 ghost use Rattle.forms.specs.Refusals.{outcome};
 ghost use Rattle.labyrinth.specs.Cipher.{article};
 ghost use Rattle.labyrinth.specs.Keys.{E, U};
-ghost use Rattle.labyrinth.specs.Refusals.{blockRefusal};
+ghost use Rattle.labyrinth.specs.Refusals.{blockRefusal, underKey};
 ghost use Rattle.labyrinth.specs.Working.{eightTables, lendable, lentRefusal, way};
 ghost use Rattle.labyrinth.specs.Working.{schedule as laidOut};
 ghost use Rattle.labyrinth.specs.Lent.{lent};
+ghost use Rattle.sets.specs.Sets.{loaded, partsIn};
+ghost use Rattle.sets.specs.Inverse.{inverseBytes};
 
 // The merged table.
 pub fn table() -> [u64; 256]
@@ -32,6 +35,13 @@ pub fn eight_tables(t: &[u64; 256]) -> [u64; 2048]
     eight
 }
 
+// The merged table of a set.
+pub fn table_of(g: [u8; 8], s: &[u8; 256]) -> [u64; 256]
+    ensures { λ r. ⌜ r ≡ merged g (now (s .entry)) ⌝ }
+{
+    rows::table_of(g, s)
+}
+
 // The substitution.
 pub fn substitution() -> [u8; 256]
     ensures { λ r. ⌜ r ≡ published.table1 ⌝ }
@@ -44,6 +54,13 @@ pub fn inverse() -> [u8; 256]
     ensures { λ r. ⌜ r ≡ invert published.table1 ⌝ }
 {
     tables::sbox_inverse()
+}
+
+// The inverse of a set's substitution.
+pub fn inverse_of(s: &[u8; 256]) -> [u8; 256]
+    ensures { λ r. ⌜ r ≡ inverseBytes (now (s .entry)) ⌝ }
+{
+    sets::inverse(s)
 }
 
 // The schedule of a working key, for enciphering or, with back, deciphering.
@@ -86,8 +103,8 @@ pub fn map_block(
     0
 }
 
-// One way or the other, with what is prepared for this block alone.
-fn by_table(k: WorkingKey, back: bool, src: &[u8], dst: &mut [u8]) -> u8
+// One way or the other by the published set, with what is prepared for this block alone.
+fn by_published(k: WorkingKey, back: bool, src: &[u8], dst: &mut [u8]) -> u8
     ensures number { λ r. ⌜ r ≡ blockRefusal (k .n) (length (now (src .entry))) (length (now (dst .entry))) ⌝ }
     ensures block { λ r. ⌜ now (dst .exit) ≡ outcome r (way article back (k .n) (k .words) (now (src .entry))) (now (dst .entry)) ⌝ }
 {
@@ -99,18 +116,56 @@ fn by_table(k: WorkingKey, back: bool, src: &[u8], dst: &mut [u8]) -> u8
     map_block(&t, &s, &u, n, &ks, src, dst)
 }
 
-// Enciphers a block by the merged table.
-pub fn encipher_by_table(k: WorkingKey, src: &[u8], dst: &mut [u8]) -> u8
+// Enciphers a block by the merged table, with the published set whichever set the key names.
+pub fn encipher_published(k: WorkingKey, src: &[u8], dst: &mut [u8]) -> u8
     ensures number { λ r. ⌜ r ≡ blockRefusal (k .n) (length (now (src .entry))) (length (now (dst .entry))) ⌝ }
     ensures block { λ r. ⌜ now (dst .exit) ≡ outcome r (E article (k .n) (k .words) (now (src .entry))) (now (dst .entry)) ⌝ }
 {
-    by_table(k, false, src, dst)
+    by_published(k, false, src, dst)
 }
 
-// Deciphers a block by the merged table.
-pub fn decipher_by_table(k: WorkingKey, src: &[u8], dst: &mut [u8]) -> u8
+// Deciphers a block by the merged table, with the published set whichever set the key names.
+pub fn decipher_published(k: WorkingKey, src: &[u8], dst: &mut [u8]) -> u8
     ensures number { λ r. ⌜ r ≡ blockRefusal (k .n) (length (now (src .entry))) (length (now (dst .entry))) ⌝ }
     ensures block { λ r. ⌜ now (dst .exit) ≡ outcome r (U article (k .n) (k .words) (now (src .entry))) (now (dst .entry)) ⌝ }
 {
-    by_table(k, true, src, dst)
+    by_published(k, true, src, dst)
+}
+
+// One way or the other by the set that the key names: 15 if it isn't loaded, right after 1. Set 0 goes its own way, and reads no store.
+fn by_table(store: Store, k: WorkingKey, back: bool, src: &[u8], dst: &mut [u8]) -> u8
+    ensures number { λ r. ⌜ r ≡ underKey (k .n) (loaded store (k .set)) (blockRefusal (k .n) (length (now (src .entry))) (length (now (dst .entry)))) ⌝ }
+    ensures block { λ r. ⌜ now (dst .exit) ≡ outcome r (way (partsIn store (k .set)) back (k .n) (k .words) (now (src .entry))) (now (dst .entry)) ⌝ }
+{
+    if k.set == 0 {
+        return by_published(k, back, src, dst);
+    }
+    let n = k.n;
+    let number = labyrinth::under_key(n, sets::is_loaded(store, k.set), 0);
+    if number != 0 {
+        return number;
+    }
+    let v = sets::set_in(store, k.set);
+    let s = v.substitution;
+    let g = v.row;
+    let t = table_of(g, &s);
+    let u = inverse_of(&s);
+    let ks = schedule(k, back);
+    map_block(&t, &s, &u, n, &ks, src, dst)
+}
+
+// Enciphers a block by the merged table.
+pub fn encipher_by_table(store: Store, k: WorkingKey, src: &[u8], dst: &mut [u8]) -> u8
+    ensures number { λ r. ⌜ r ≡ underKey (k .n) (loaded store (k .set)) (blockRefusal (k .n) (length (now (src .entry))) (length (now (dst .entry)))) ⌝ }
+    ensures block { λ r. ⌜ now (dst .exit) ≡ outcome r (E (partsIn store (k .set)) (k .n) (k .words) (now (src .entry))) (now (dst .entry)) ⌝ }
+{
+    by_table(store, k, false, src, dst)
+}
+
+// Deciphers a block by the merged table.
+pub fn decipher_by_table(store: Store, k: WorkingKey, src: &[u8], dst: &mut [u8]) -> u8
+    ensures number { λ r. ⌜ r ≡ underKey (k .n) (loaded store (k .set)) (blockRefusal (k .n) (length (now (src .entry))) (length (now (dst .entry)))) ⌝ }
+    ensures block { λ r. ⌜ now (dst .exit) ≡ outcome r (U (partsIn store (k .set)) (k .n) (k .words) (now (src .entry))) (now (dst .entry)) ⌝ }
+{
+    by_table(store, k, true, src, dst)
 }

@@ -118,7 +118,7 @@ fn set_key(t: Tape, rest: &[u8], answer: &mut [u8]) -> Stepped
         return say_number(t, number, 131, answer);
     }
     let end = 3 + 8 * (n * l);
-    let x = expansion::expand(n, l, &rest[3..end]);
+    let x = expansion::expand_published(n, l, &rest[3..end]);
     let k = x.key;
     let next = Tape {
         key: k,
@@ -155,9 +155,9 @@ fn map_used(k: WorkingKey, back: bool, src: &[u8], dst: &mut [u8])
     ensures { λ _. ⌜ now (dst .exit) ≡ way article back (k .n) (k .words) (now (src .entry)) ⌝ }
 {
     if back {
-        table_cipher::decipher_by_table(k, src, dst);
+        table_cipher::decipher_published(k, src, dst);
     } else {
-        table_cipher::encipher_by_table(k, src, dst);
+        table_cipher::encipher_published(k, src, dst);
     }
 }
 

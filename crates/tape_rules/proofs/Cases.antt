@@ -125,13 +125,13 @@ module _ (t : Tape) (rest : List ℕ) where
 
     -- the working key is the one that expansion gives
     pub setKey-done : {x : Expanded} → r ≡ 0
-        → x ≡ expansion (article .SM) n l (take (3 + 8 * (n * l) - 3) (drop 3 rest)) (expandRefusal n l (length (take (3 + 8 * (n * l) - 3) (drop 3 rest))))
+        → x ≡ expansion (article .SM) 0 n l (take (3 + 8 * (n * l) - 3) (drop 3 rest)) (expandRefusal n l (length (take (3 + 8 * (n * l) - 3) (drop 3 rest))))
         → setKey t rest ≡ answers (withKey (x .key) t) 0 131 []
     unfolding setKey
     setKey-done {x} z q =
         rw (le-ltb (length rest) 131 long)
         (judged-done 131 t _ same-number z
-        ∙ ap₂ (λ (a b : ℕ). answers (withKey (expansion (article .SM) a b (take (8 * (a * b)) (take 128 (drop 3 rest))) 0 .key) t) 0 131 []) (sym en) (sym el)
+        ∙ ap₂ (λ (a b : ℕ). answers (withKey (expansion (article .SM) 0 a b (take (8 * (a * b)) (take 128 (drop 3 rest))) 0 .key) t) 0 131 []) (sym en) (sym el)
         ∙ ap (λ (y : Expanded). answers (withKey (y .key) t) 0 131 []) (sym made))
       where
         k : Key-taken n l
@@ -148,9 +148,9 @@ module _ (t : Tape) (rest : List ℕ) where
             let m = k .used in
             length-take (3 + 8 * (n * l) - 3) (drop 3 rest) ∙ omega (arith, length-drop 3 rest)
 
-        made : x ≡ expansion (article .SM) n l (take (8 * (n * l)) (take 128 (drop 3 rest))) 0
+        made : x ≡ expansion (article .SM) 0 n l (take (8 * (n * l)) (take 128 (drop 3 rest))) 0
         made =
-            q ∙ ap₂ (λ (y : List ℕ) (u : ℕ). expansion (article .SM) n l y u) used
+            q ∙ ap₂ (λ (y : List ℕ) (u : ℕ). expansion (article .SM) 0 n l y u) used
             (expand-iff n l _ .1 (legal-iff n .0 (k .size), legalLength-iff l .0 (k .halves), long-enough))
 
 -- ---- 03 and 04

@@ -58,7 +58,7 @@ pub data Way (t : Tape) (rest : List ℕ) : Answer → Type 0 where
   cut : {w : ℕ} → Going t rest → Known (getD rest 0 0) w → length rest < w → Way t rest (refuses (ended t) 8 (length rest))
   refused : {w : ℕ} (number : ℕ) → keeps number ≡ true → Going t rest → Known (getD rest 0 0) w → w ≤ length rest → Way t rest (refuses t number w)
   set : Going t rest → getD rest 0 0 ≡ 1 → 131 ≤ length rest → keyRefusal (getD rest 1 0) (getD rest 2 0) (take 128 (drop 3 rest)) ≡ 0
-      → Way t rest (answers (withKey (expansion (article .SM) (getD rest 1 0) (getD rest 2 0) (take (8 * (getD rest 1 0 * getD rest 2 0)) (take 128 (drop 3 rest))) 0 .key) t) 0 131 [])
+      → Way t rest (answers (withKey (expansion (article .SM) 0 (getD rest 1 0) (getD rest 2 0) (take (8 * (getD rest 1 0 * getD rest 2 0)) (take 128 (drop 3 rest))) 0 .key) t) 0 131 [])
   mapped : {m : ℕ → List ℕ → List ℕ → List ℕ} → Going t rest → Maps (getD rest 0 0) m → 65 ≤ length rest → mapRefusal t (take 64 (drop 1 rest)) ≡ 0
       → Way t rest (answers t 0 65 (m (t .key .n) (t .key .words) (take (16 * t .key .n) (take 64 (drop 1 rest)))))
   mixed : Going t rest → getD rest 0 0 ≡ 5 → 9 ≤ length rest → Way t rest (answers t 0 9 (bytes 1 (each 1 (mix row) (words 1 (take 8 (drop 1 rest))))))

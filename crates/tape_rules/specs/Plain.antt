@@ -37,7 +37,7 @@ module _ (G : ℕ → ℕ → List ℕ → Tape → Type 0) (t : Tape) (rest : L
       Unless (Legal n) (G 1 131 (1 ∷ []) t)
       (Unless (LegalLength l) (G 2 131 (2 ∷ []) t)
       (Unless (UnusedZero 3 (8 * (n * l)) 128 rest) (G 10 131 (10 ∷ []) t)
-      (G 0 131 (0 ∷ []) (withKey (expansion (article .SM) n l (take (8 * (n * l)) (take 128 (drop 3 rest))) 0 .key) t))))
+      (G 0 131 (0 ∷ []) (withKey (expansion (article .SM) 0 n l (take (8 * (n * l)) (take 128 (drop 3 rest))) 0 .key) t))))
 
   -- 'For 03 and 04 then 9 if no key was set, 1, and 10 if an unused block byte isn't zero'; 65 bytes are taken, and the state is kept; else the
   -- answer is followed by the 16n bytes that the map gives

@@ -24,7 +24,7 @@ use Rattle.tape_rules.specs.declared.Stepped.{Stepped}
 
 -- 'A fresh state has n = 0, zero words, and neither mark.'
 abbrev pub fresh : Tape
-fresh = record { key = record { n = 0; words = replicate 32 0 }; keyed = false; ended = false }
+fresh = record { key = record { n = 0; set = 0; words = replicate 32 0 }; keyed = false; ended = false }
 
 -- the same state with the mark 'ended'
 abbrev pub ended : Tape → Tape
@@ -76,7 +76,7 @@ setKey t rest =
     let key = take 128 (drop 3 rest) in
     whole 131 t rest
     (judged (keyRefusal n l key) 131 t
-    (answers (withKey (expansion (article .SM) n l (take (8 * (n * l)) key) 0 .key) t) 0 131 []))
+    (answers (withKey (expansion (article .SM) 0 n l (take (8 * (n * l)) key) 0 .key) t) 0 131 []))
 
 -- 'For 03 and 04 then 9 if no key was set, 1, and 10 if an unused block byte isn't zero.'
 unfoldable pub mapRefusal : Tape → List ℕ → ℕ

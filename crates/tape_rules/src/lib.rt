@@ -26,6 +26,7 @@ pub fn fresh() -> Tape
     Tape {
         key: WorkingKey {
             n: 0,
+            set: 0,
             words: [0; 32],
         },
         keyed: false,

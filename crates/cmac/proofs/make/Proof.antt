@@ -1,54 +1,97 @@
--- A refusal leaves the destination; else the first bytes of the last block are copied to it.
+-- Set 0 goes its own way; else the checks, and what is prepared of the set gives E by its tables.
 -- Assumes nothing.
-use mathlib.Core.Path.{sym, _∙_}
+use mathlib.Core.Path.{_≡_, ap, _∙_}
+use mathlib.Core.Bool.{Bool, false}
+use mathlib.Core.List.{List}
+use Prim.Native.Nat.{ℕ}
 use lib.ListN.{length}
 use borrow.Author.Needs.{needs}
 use Rattle.forms.proofs.Refusals.{refused-keeps}
-use Rattle.labyrinth.specs.Cipher.{article}
-use Rattle.modes.proofs.Maps.{keeps-one}
-use Rattle.modes.proofs.Refusals.{Cmac-taken, cmac-taken}
-use Rattle.cmac.proofs.Tags.{tag-copied}
+use Rattle.labyrinth.specs.Cipher.{Parts}
+use Rattle.labyrinth.specs.Keys.{E}
+use Rattle.labyrinth.specs.Refusals.{underKey}
+use Rattle.labyrinth.proofs.Refusals.{under-refused}
+use Rattle.sets.specs.Sets.{loaded}
+use Rattle.sets.proofs.Sets.{published-answer}
+use Rattle.sets.proofs.Lent.{Made, set-made, set-run}
+use Rattle.modes.specs.Cmac.{tag}
+use Rattle.modes.proofs.Refusals.{cmac-taken, cmac-one}
 use Rattle.cmac.proofs.make.Statement.{statement}
 use Rattle.cmac.proofs.make.Tie as tie
 
-cmac-refusal-requires : tie.Need-cmac-refusal-requires
-cmac-refusal-requires c κs = search needs
-
-returns : tie.Need-returns
-returns c = (c .before .cmac-refusal .ensures, refused-keeps _ _ _ (c .if1 .taken))
-
--- what a tag that is taken has
-taken : (c : tie.Else1) → let a = c .before .before .before .before .args in Cmac-taken (a .k .n) (length (a .dst .now))
-taken c = cmac-taken _ _ (c .before .cmac-refusal .ensures) (c .if1 .left)
-
-chained-requires : tie.Need-chained-requires
-chained-requires c κs = taken c .one
-
-slice-aggregate-copy-into : tie.Need-slice-aggregate-copy-into
-slice-aggregate-copy-into c = search needs
-
-copy-into-requires : tie.Need-copy-into-requires
-copy-into-requires c κs = search needs
+make-published-requires : tie.Need-make-published-requires
+make-published-requires c κs = search needs
 
 same-length : tie.Need-same-length
 same-length c = search needs
 
+returns : tie.Need-returns
+returns c =
+    let e = c .before .before .before .before in
+    let a = e .before .before .before .before .args in
+    let mapped = c .before .before .make-published .ensures in
+    published-answer (a .store) (a .k .set) (a .k .n) (λ (p : Parts). tag (E p (a .k .n) (a .k .words)) (length (a .dst .now)) (a .message .now)) (a .dst .now) (e .if1 .taken)
+    (cmac-one (a .k .n) (length (a .dst .now))) (mapped .0) (mapped .1)
+
+is-loaded-requires : tie.Need-is-loaded-requires
+is-loaded-requires c κs = search needs
+
+under-key-requires : tie.Need-under-key-requires
+under-key-requires c κs = search needs
+
+-- 1, then 15
+checked : (c : tie.After-under-key) → let a = c .before .before .before .before .before .before .args in c .under-key .result ≡ underKey (a .k .n) (loaded (a .store) (a .k .set)) 0
+checked c = c .under-key .ensures ∙ ap (λ (b : Bool). underKey (c .before .before .before .before .before .before .args .k .n) b 0) (c .before .is-loaded .ensures)
+
 returns-2 : tie.Need-returns-2
-returns-2 c =
-    let e = c .before .before .before .before .before .before in
-    let a = e .before .before .before .before .args in (
-      sym (e .if1 .left) ∙ e .before .cmac-refusal .ensures,
-      tag-copied _ (a .message .now) (keeps-one article (a .k .n) (a .k .words) (taken e .one)) (a .dst .now) (taken e .top) (c .before .before .before .before .before .chained .ensures) (c .before .before .copy-into .ensures),
-    )
+returns-2 c = (under-refused _ _ _ (checked (c .before)) (c .if2 .taken), refused-keeps _ _ _ (c .if2 .taken))
+
+set-in-requires : tie.Need-set-in-requires
+set-in-requires c κs = search needs
+
+table-of-requires : tie.Need-table-of-requires
+table-of-requires c κs = search needs
+
+inverse-of-requires : tie.Need-inverse-of-requires
+inverse-of-requires c κs = search needs
+
+schedule-requires : tie.Need-schedule-requires
+schedule-requires c κs = search needs
+
+-- what is prepared
+made : (c : tie.After-schedule) → let e = c .before .before .before .before .before .before .before .before in let a = e .before .before .before .before .before .before .before .args in
+    Made (a .store) (a .k .set) false (a .k .n) (a .k .words) (c .before .before .before .table-of .result) (c .before .before .before .before .before .before .before .set-in .result .substitution) (c .before .inverse-of .result) (c .schedule .result) (e .before .under-key .result)
+made c =
+    let e = c .before .before .before .before .before .before .before .before in let a = e .before .before .before .before .before .before .before .args in
+    set-made (a .store) (a .k .set) (checked (e .before)) (e .if2 .left) (c .before .before .before .before .before .before .before .set-in .ensures) (c .before .before .before .table-of .ensures) (c .before .inverse-of .ensures) (c .schedule .ensures)
+
+make-lent-requires : tie.Need-make-lent-requires
+make-lent-requires c κs = search needs
+
+same-length-2 : tie.Need-same-length-2
+same-length-2 c = search needs
+
+returns-3 : tie.Need-returns-3
+returns-3 c =
+    let p = c .before .before .before .before .before .before .before .before in
+    let a = p .before .before .before .before .before .before .before .before .before .before .before .before .before .before .before .args in
+    let mapped = c .before .before .make-lent .ensures in
+    set-run (a .store) (a .k .set) (made p) (λ (m : List ℕ → List ℕ). tag m (length (a .dst .now)) (a .message .now)) (a .dst .now) (λ z. cmac-taken _ _ (mapped .0) z .size) (mapped .0) (mapped .1)
 
 pub make-spec : {M : Type 1} → statement M
 make-spec =
     tie.close
     (tie.spec
-    cmac-refusal-requires
-    returns
-    chained-requires
-    slice-aggregate-copy-into
-    copy-into-requires
+    make-published-requires
     same-length
-    returns-2)
+    returns
+    is-loaded-requires
+    under-key-requires
+    returns-2
+    set-in-requires
+    table-of-requires
+    inverse-of-requires
+    schedule-requires
+    make-lent-requires
+    same-length-2
+    returns-3)

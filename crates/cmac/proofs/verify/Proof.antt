@@ -1,59 +1,93 @@
--- A refusal is a no; else the first bytes of the last block are compared with the given ones.
+-- Set 0 goes its own way; else the checks, and what is prepared of the set gives E by its tables.
 -- Assumes nothing.
-use mathlib.Core.Path.{sym, ap}
-use Prim.Native.Nat.{_≤_}
-use native.Mathlib.Omega.{arith}
+use mathlib.Core.Path.{_≡_, refl, sym, ap, _∙_}
+use mathlib.Core.Bool.{Bool, false}
+use mathlib.Core.List.{List}
+use Prim.Native.Nat.{ℕ}
 use lib.ListN.{length}
-use lib.Seq.{length-take-le}
 use borrow.Author.Needs.{needs}
-use Rattle.labyrinth.specs.Cipher.{article}
-use Rattle.modes.proofs.Maps.{keeps-one}
-use Rattle.modes.proofs.Refusals.{Cmac-taken, cmac-taken}
-use Rattle.modes.proofs.Cmac.{length-mac}
-use Rattle.cmac.proofs.Tags.{refused-no, compared-yes}
+use Rattle.labyrinth.specs.Cipher.{Parts, article}
+use Rattle.labyrinth.specs.Keys.{E}
+use Rattle.labyrinth.specs.Refusals.{underKey}
+use Rattle.labyrinth.specs.Lent.{lent}
+use Rattle.labyrinth.proofs.Refusals.{under-refused, under-loaded}
+use Rattle.sets.specs.Sets.{loaded, partsIn}
+use Rattle.sets.proofs.Sets.{loaded-zero, parts-zero}
+use Rattle.sets.proofs.Lent.{Made, set-made, set-number, set-by-one}
+use Rattle.modes.specs.Refusals.{cmacRefusal}
+use Rattle.modes.proofs.Refusals.{cmac-taken, cmac-one}
+use Rattle.cmac.proofs.Tags.{refused-no, verified-under}
 use Rattle.cmac.proofs.verify.Statement.{statement}
 use Rattle.cmac.proofs.verify.Tie as tie
 
-cmac-refusal-requires : tie.Need-cmac-refusal-requires
-cmac-refusal-requires c κs = search needs
+verify-published-requires : tie.Need-verify-published-requires
+verify-published-requires c κs = search needs
 
 returns : tie.Need-returns
-returns c = refused-no _ _ _ _ (c .before .cmac-refusal .ensures) (c .if1 .taken)
+returns c =
+    let a = c .before .before .before .before .before .args in
+    let z = c .before .if1 .taken in
+    c .verify-published .ensures
+    ∙ verified-under (E article (a .k .n) (a .k .words)) (E (partsIn (a .store) (a .k .set)) (a .k .n) (a .k .words)) (a .message .now) (a .tag .now)
+    (sym (under-loaded (a .k .n) (loaded (a .store) (a .k .set)) (cmacRefusal (a .k .n) (length (a .tag .now))) (cmac-one (a .k .n) (length (a .tag .now))) (loaded-zero (a .store) (a .k .set) z)))
+    (λ y. ap (λ (p : Parts). E p (a .k .n) (a .k .words)) (sym (parts-zero (a .store) (a .k .set) z)))
 
--- what a tag that is taken has, and that the last block is as long at least
-taken : (c : tie.Else1) → let a = c .before .before .before .before .args in Cmac-taken (a .k .n) (length (a .tag .now))
-taken c = cmac-taken _ _ (c .before .cmac-refusal .ensures) (c .if1 .left)
+is-loaded-requires : tie.Need-is-loaded-requires
+is-loaded-requires c κs = search needs
 
-inside : (c : tie.After-chained) → length (c .before .before .before .before .before .args .tag .now) ≤ length (c .chained .result)
-inside c =
-    let k = c .before .before .before .before .before .args .k in
-    omega (arith, taken (c .before) .top, ap length (c .chained .ensures), length-mac _ (keeps-one article (k .n) (k .words) (taken (c .before) .one)) (c .before .before .before .before .before .args .message .now))
+under-key-requires : tie.Need-under-key-requires
+under-key-requires c κs = search needs
 
-chained-requires : tie.Need-chained-requires
-chained-requires c κs = taken c .one
-
-array-share-prefix-made : tie.Need-array-share-prefix-made
-array-share-prefix-made c = inside c
-
-slice-aggregate-equal : tie.Need-slice-aggregate-equal
-slice-aggregate-equal c = sym (length-take-le _ (c .before .chained .result) (inside (c .before)))
-
-equal-requires : tie.Need-equal-requires
-equal-requires c κs = search needs
+-- 1, then 15
+checked : (c : tie.After-under-key) → let a = c .before .before .before .before .before .before .args in c .under-key .result ≡ underKey (a .k .n) (loaded (a .store) (a .k .set)) 0
+checked c = c .under-key .ensures ∙ ap (λ (b : Bool). underKey (c .before .before .before .before .before .before .args .k .n) b 0) (c .before .is-loaded .ensures)
 
 returns-2 : tie.Need-returns-2
-returns-2 c =
-    let e = c .before .before .before in
-    compared-yes _ _ _ _ (e .before .cmac-refusal .ensures) (e .if1 .left) (c .before .before .chained .ensures) (c .equal .ensures)
+returns-2 c = refused-no _ _ _ _ (under-refused _ _ _ (checked (c .before)) (c .if2 .taken)) (c .if2 .taken)
+
+set-in-requires : tie.Need-set-in-requires
+set-in-requires c κs = search needs
+
+table-of-requires : tie.Need-table-of-requires
+table-of-requires c κs = search needs
+
+inverse-of-requires : tie.Need-inverse-of-requires
+inverse-of-requires c κs = search needs
+
+schedule-requires : tie.Need-schedule-requires
+schedule-requires c κs = search needs
+
+-- what is prepared
+made : (c : tie.After-schedule) → let e = c .before .before .before .before .before .before .before .before in let a = e .before .before .before .before .before .before .before .args in
+    Made (a .store) (a .k .set) false (a .k .n) (a .k .words) (c .before .before .before .table-of .result) (c .before .before .before .before .before .before .before .set-in .result .substitution) (c .before .inverse-of .result) (c .schedule .result) (e .before .under-key .result)
+made c =
+    let e = c .before .before .before .before .before .before .before .before in let a = e .before .before .before .before .before .before .before .args in
+    set-made (a .store) (a .k .set) (checked (e .before)) (e .if2 .left) (c .before .before .before .before .before .before .before .set-in .ensures) (c .before .before .before .table-of .ensures) (c .before .inverse-of .ensures) (c .schedule .ensures)
+
+verify-lent-requires : tie.Need-verify-lent-requires
+verify-lent-requires c κs = search needs
+
+returns-3 : tie.Need-returns-3
+returns-3 c =
+    let p = c .before .before .before .before .before in
+    let a = p .before .before .before .before .before .before .before .before .before .before .before .before .before .before .before .args in
+    c .verify-lent .ensures
+    ∙ verified-under (lent (a .k .n) (p .before .before .before .table-of .result) (p .before .before .before .before .before .before .before .set-in .result .substitution) (p .before .inverse-of .result) (p .schedule .result))
+    (E (partsIn (a .store) (a .k .set)) (a .k .n) (a .k .words)) (a .message .now) (a .tag .now) (set-number (a .store) (a .k .set) (made p) (cmacRefusal (a .k .n) (length (a .tag .now))) refl)
+    (λ z. set-by-one (a .store) (a .k .set) (made p) (cmac-taken _ _ refl z .size))
 
 pub verify-spec : {M : Type 1} → statement M
 verify-spec =
     tie.close
     (tie.spec
-    cmac-refusal-requires
+    verify-published-requires
     returns
-    chained-requires
-    array-share-prefix-made
-    slice-aggregate-equal
-    equal-requires
-    returns-2)
+    is-loaded-requires
+    under-key-requires
+    returns-2
+    set-in-requires
+    table-of-requires
+    inverse-of-requires
+    schedule-requires
+    verify-lent-requires
+    returns-3)

@@ -19,16 +19,16 @@ number s = let a = s .args in λ m. cbcRefusal m (length (a .start .now)) (lengt
 abbrev result : tie.Start → ℕ → List ℕ → List ℕ
 result s = let a = s .args in λ m ws. cbcOpen (U article m ws) (16 * m) (a .start .now) (a .src .now)
 
-expand-requires : tie.Need-expand-requires
-expand-requires c κs = search needs
+expand-published-requires : tie.Need-expand-published-requires
+expand-published-requires c κs = search needs
 
 returns : tie.Need-returns
 returns c =
     let s = c .before .before .before .before .before .before .before in
-    key-refused (s .args .n) (s .args .l) (s .args .key .now) (number s) (result s) (s .args .dst .now) (c .before .before .expand .ensures) (c .if1 .taken)
+    key-refused (s .args .n) (s .args .l) (s .args .key .now) (number s) (result s) (s .args .dst .now) (c .before .before .expand-published .ensures) (c .if1 .taken)
 
-open-requires : tie.Need-open-requires
-open-requires c κs = search needs
+open-published-requires : tie.Need-open-published-requires
+open-published-requires c κs = search needs
 
 same-length : tie.Need-same-length
 same-length c = search needs
@@ -36,7 +36,7 @@ same-length c = search needs
 returns-2 : tie.Need-returns-2
 returns-2 c =
     let s = c .before .before .before .before .before .before .before .before .before .before .before in
-    key-passed (s .args .n) (s .args .l) (s .args .key .now) (number s) (result s) (s .args .dst .now) (c .before .before .before .before .before .before .expand .ensures) (c .before .before .before .before .if1 .left) (c .before .before .«open» .ensures)
+    key-passed (s .args .n) (s .args .l) (s .args .key .now) (number s) (result s) (s .args .dst .now) (c .before .before .before .before .before .before .expand-published .ensures) (c .before .before .before .before .if1 .left) (c .before .before .open-published .ensures)
 
 pub labyrinth-cbc-open-spec : {M : Type 1} → statement M
-labyrinth-cbc-open-spec = tie.close (tie.spec expand-requires returns open-requires same-length returns-2)
+labyrinth-cbc-open-spec = tie.close (tie.spec expand-published-requires returns open-published-requires same-length returns-2)

@@ -19,16 +19,16 @@ number s = let a = s .args in λ m. cbcRefusal m (length (a .start .now)) (lengt
 abbrev result : tie.Start → ℕ → List ℕ → List ℕ
 result s = let a = s .args in λ m ws. cbcSeal (E article m ws) (16 * m) (a .start .now) (a .src .now)
 
-expand-requires : tie.Need-expand-requires
-expand-requires c κs = search needs
+expand-published-requires : tie.Need-expand-published-requires
+expand-published-requires c κs = search needs
 
 returns : tie.Need-returns
 returns c =
     let s = c .before .before .before .before .before .before .before in
-    key-refused (s .args .n) (s .args .l) (s .args .key .now) (number s) (result s) (s .args .dst .now) (c .before .before .expand .ensures) (c .if1 .taken)
+    key-refused (s .args .n) (s .args .l) (s .args .key .now) (number s) (result s) (s .args .dst .now) (c .before .before .expand-published .ensures) (c .if1 .taken)
 
-seal-requires : tie.Need-seal-requires
-seal-requires c κs = search needs
+seal-published-requires : tie.Need-seal-published-requires
+seal-published-requires c κs = search needs
 
 same-length : tie.Need-same-length
 same-length c = search needs
@@ -36,7 +36,7 @@ same-length c = search needs
 returns-2 : tie.Need-returns-2
 returns-2 c =
     let s = c .before .before .before .before .before .before .before .before .before .before .before in
-    key-passed (s .args .n) (s .args .l) (s .args .key .now) (number s) (result s) (s .args .dst .now) (c .before .before .before .before .before .before .expand .ensures) (c .before .before .before .before .if1 .left) (c .before .before .seal .ensures)
+    key-passed (s .args .n) (s .args .l) (s .args .key .now) (number s) (result s) (s .args .dst .now) (c .before .before .before .before .before .before .expand-published .ensures) (c .before .before .before .before .if1 .left) (c .before .before .seal-published .ensures)
 
 pub labyrinth-cbc-seal-spec : {M : Type 1} → statement M
-labyrinth-cbc-seal-spec = tie.close (tie.spec expand-requires returns seal-requires same-length returns-2)
+labyrinth-cbc-seal-spec = tie.close (tie.spec expand-published-requires returns seal-published-requires same-length returns-2)

@@ -20,18 +20,18 @@ number s = λ m. cmacRefusal m (length (s .args .tag .now))
 abbrev result : tie.Start → ℕ → List ℕ → List ℕ
 result s = λ m ws. tag (E article m ws) (length (s .args .tag .now)) (s .args .message .now)
 
-expand-requires : tie.Need-expand-requires
-expand-requires c κs = search needs
+expand-published-requires : tie.Need-expand-published-requires
+expand-published-requires c κs = search needs
 
 -- src/lib.rt:124:9
 returns : tie.Need-returns
 returns c =
     let s = c .before .before .before .before .before .before in
-    key-refused 1 (s .args .l) (s .args .key .now) (number s) (result s) (s .args .tag .now) (c .before .before .expand .ensures) (c .if1 .taken)
+    key-refused 1 (s .args .l) (s .args .key .now) (number s) (result s) (s .args .tag .now) (c .before .before .expand-published .ensures) (c .if1 .taken)
 
 -- src/lib.rt:126:5
-make-requires : tie.Need-make-requires
-make-requires c κs = search needs
+make-published-requires : tie.Need-make-published-requires
+make-published-requires c κs = search needs
 
 -- src/lib.rt:117:1
 same-length : tie.Need-same-length
@@ -41,8 +41,8 @@ same-length c = search needs
 returns-2 : tie.Need-returns-2
 returns-2 c =
     let s = c .before .before .before .before .before .before .before .before .before .before in
-    key-passed 1 (s .args .l) (s .args .key .now) (number s) (result s) (s .args .tag .now) (c .before .before .before .before .before .before .expand .ensures) (c .before .before .before .before .if1 .left) (c .before .before .make .ensures)
+    key-passed 1 (s .args .l) (s .args .key .now) (number s) (result s) (s .args .tag .now) (c .before .before .before .before .before .before .expand-published .ensures) (c .before .before .before .before .if1 .left) (c .before .before .make-published .ensures)
 
 pub labyrinth-cmac-spec : {M : Type 1} → statement M
 labyrinth-cmac-spec =
-    tie.close (tie.spec expand-requires returns make-requires same-length returns-2)
+    tie.close (tie.spec expand-published-requires returns make-published-requires same-length returns-2)

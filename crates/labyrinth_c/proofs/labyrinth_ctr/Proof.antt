@@ -19,16 +19,16 @@ number s = let a = s .args in λ m. ctrRefusal m (length (a .start .now)) (lengt
 abbrev result : tie.Start → ℕ → List ℕ → List ℕ
 result s = let a = s .args in λ m ws. ctr (E article m ws) (16 * m) (a .start .now) (a .q) (a .src .now)
 
-expand-requires : tie.Need-expand-requires
-expand-requires c κs = search needs
+expand-published-requires : tie.Need-expand-published-requires
+expand-published-requires c κs = search needs
 
 returns : tie.Need-returns
 returns c =
     let s = c .before .before .before .before .before .before .before in
-    key-refused (s .args .n) (s .args .l) (s .args .key .now) (number s) (result s) (s .args .dst .now) (c .before .before .expand .ensures) (c .if1 .taken)
+    key-refused (s .args .n) (s .args .l) (s .args .key .now) (number s) (result s) (s .args .dst .now) (c .before .before .expand-published .ensures) (c .if1 .taken)
 
-run-requires : tie.Need-run-requires
-run-requires c κs = search needs
+run-published-requires : tie.Need-run-published-requires
+run-published-requires c κs = search needs
 
 same-length : tie.Need-same-length
 same-length c = search needs
@@ -36,7 +36,7 @@ same-length c = search needs
 returns-2 : tie.Need-returns-2
 returns-2 c =
     let s = c .before .before .before .before .before .before .before .before .before .before .before in
-    key-passed (s .args .n) (s .args .l) (s .args .key .now) (number s) (result s) (s .args .dst .now) (c .before .before .before .before .before .before .expand .ensures) (c .before .before .before .before .if1 .left) (c .before .before .run .ensures)
+    key-passed (s .args .n) (s .args .l) (s .args .key .now) (number s) (result s) (s .args .dst .now) (c .before .before .before .before .before .before .expand-published .ensures) (c .before .before .before .before .if1 .left) (c .before .before .run-published .ensures)
 
 pub labyrinth-ctr-spec : {M : Type 1} → statement M
-labyrinth-ctr-spec = tie.close (tie.spec expand-requires returns run-requires same-length returns-2)
+labyrinth-ctr-spec = tie.close (tie.spec expand-published-requires returns run-published-requires same-length returns-2)

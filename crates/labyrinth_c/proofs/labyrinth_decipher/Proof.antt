@@ -18,16 +18,16 @@ number s = let a = s .args in λ m. blockRefusal m (length (a .src .now)) (lengt
 abbrev result : tie.Start → ℕ → List ℕ → List ℕ
 result s = let a = s .args in λ m ws. U article m ws (a .src .now)
 
-expand-requires : tie.Need-expand-requires
-expand-requires c κs = search needs
+expand-published-requires : tie.Need-expand-published-requires
+expand-published-requires c κs = search needs
 
 returns : tie.Need-returns
 returns c =
     let s = c .before .before .before .before .before .before in
-    key-refused (s .args .n) (s .args .l) (s .args .key .now) (number s) (result s) (s .args .dst .now) (c .before .before .expand .ensures) (c .if1 .taken)
+    key-refused (s .args .n) (s .args .l) (s .args .key .now) (number s) (result s) (s .args .dst .now) (c .before .before .expand-published .ensures) (c .if1 .taken)
 
-decipher-by-table-requires : tie.Need-decipher-by-table-requires
-decipher-by-table-requires c κs = search needs
+decipher-published-requires : tie.Need-decipher-published-requires
+decipher-published-requires c κs = search needs
 
 same-length : tie.Need-same-length
 same-length c = search needs
@@ -35,7 +35,7 @@ same-length c = search needs
 returns-2 : tie.Need-returns-2
 returns-2 c =
     let s = c .before .before .before .before .before .before .before .before .before .before in
-    key-passed (s .args .n) (s .args .l) (s .args .key .now) (number s) (result s) (s .args .dst .now) (c .before .before .before .before .before .before .expand .ensures) (c .before .before .before .before .if1 .left) (c .before .before .decipher-by-table .ensures)
+    key-passed (s .args .n) (s .args .l) (s .args .key .now) (number s) (result s) (s .args .dst .now) (c .before .before .before .before .before .before .expand-published .ensures) (c .before .before .before .before .if1 .left) (c .before .before .decipher-published .ensures)
 
 pub labyrinth-decipher-spec : {M : Type 1} → statement M
-labyrinth-decipher-spec = tie.close (tie.spec expand-requires returns decipher-by-table-requires same-length returns-2)
+labyrinth-decipher-spec = tie.close (tie.spec expand-published-requires returns decipher-published-requires same-length returns-2)

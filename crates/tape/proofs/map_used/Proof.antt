@@ -10,18 +10,18 @@ use Rattle.tape_rules.proofs.Cases.{map-used}
 use Rattle.tape.proofs.map_used.Statement.{statement}
 use Rattle.tape.proofs.map_used.Tie as tie
 
-decipher-by-table-requires : tie.Need-decipher-by-table-requires
-decipher-by-table-requires c κs = search needs
+decipher-published-requires : tie.Need-decipher-published-requires
+decipher-published-requires c κs = search needs
 
-encipher-by-table-requires : tie.Need-encipher-by-table-requires
-encipher-by-table-requires c κs = search needs
+encipher-published-requires : tie.Need-encipher-published-requires
+encipher-published-requires c κs = search needs
 
 same-length : tie.Need-same-length
 same-length c = search needs
 
 returns : tie.Need-returns
 returns c =
-    let call = c .before .before .decipher-by-table in
+    let call = c .before .before .decipher-published in
     let start = c .before .before .before .before .before .before .before in
     let a = start .args in
     map-used (a .k .n) (a .src .now) (a .dst .now) (start .pre .0) (start .pre .1) (start .pre .2) (call .ensures .0)
@@ -32,7 +32,7 @@ same-length-2 c = search needs
 
 returns-2 : tie.Need-returns-2
 returns-2 c =
-    let call = c .before .before .encipher-by-table in
+    let call = c .before .before .encipher-published in
     let start = c .before .before .before .before .before .before .before in
     let a = start .args in
     map-used (a .k .n) (a .src .now) (a .dst .now) (start .pre .0) (start .pre .1) (start .pre .2) (call .ensures .0)
@@ -42,8 +42,8 @@ pub map-used-spec : {M : Type 1} → statement M
 map-used-spec =
     tie.close
     (tie.spec
-    decipher-by-table-requires
-    encipher-by-table-requires
+    decipher-published-requires
+    encipher-published-requires
     same-length
     returns
     same-length-2

@@ -80,17 +80,17 @@ mul-end-2 c = omega (arith, used c)
 add-end : tie.Need-add-end
 add-end c = omega (arith, used c)
 
-sub-expand : tie.Need-sub-expand
-sub-expand c = search needs
+sub-expand-published : tie.Need-sub-expand-published
+sub-expand-published c = search needs
 
-part-expand-start : tie.Need-part-expand-start
-part-expand-start c = search needs
+part-expand-published-start : tie.Need-part-expand-published-start
+part-expand-published-start c = search needs
 
-part-expand-end : tie.Need-part-expand-end
-part-expand-end c = omega (arith, used c, c .before .before .before .before .before .before .before .if1 .left)
+part-expand-published-end : tie.Need-part-expand-published-end
+part-expand-published-end c = omega (arith, used c, c .before .before .before .before .before .before .before .if1 .left)
 
-expand-requires : tie.Need-expand-requires
-expand-requires c κs = search needs
+expand-published-requires : tie.Need-expand-published-requires
+expand-published-requires c κs = search needs
 
 say-number-requires-3 : tie.Need-say-number-requires-3
 say-number-requires-3 c κs = search needs
@@ -103,7 +103,7 @@ returns-3 c =
     let n = c .before .before .before .before .before .before .before in
     let a = n .before .before .before .before .before .before .before .before .before .before .args in
     gives (a .answer .now)
-    (setKey-done (a .t) (a .rest .now) (n .before .before .before .before .before .before .before .if1 .left) (n .before .before .before .before .before .size .ensures .0) (n .before .before .before .size2 .ensures .0) (n .before .key-refusal .ensures) (n .if2 .left) (c .before .before .before .before .before .expand .ensures))
+    (setKey-done (a .t) (a .rest .now) (n .before .before .before .before .before .before .before .if1 .left) (n .before .before .before .before .before .size .ensures .0) (n .before .before .before .size2 .ensures .0) (n .before .key-refusal .ensures) (n .if2 .left) (c .before .before .before .before .before .expand-published .ensures))
     (c .before .before .say-number3 .ensures)
 
 pub set-key-spec : {M : Type 1} → statement M
@@ -128,10 +128,10 @@ set-key-spec =
     mul-end
     mul-end-2
     add-end
-    sub-expand
-    part-expand-start
-    part-expand-end
-    expand-requires
+    sub-expand-published
+    part-expand-published-start
+    part-expand-published-end
+    expand-published-requires
     say-number-requires-3
     same-length-3
     returns-3)

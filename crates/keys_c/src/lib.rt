@@ -1,0 +1,162 @@
+// The library as C sees it, under a working key: blocks, runs and tags by the set that the key names, out of a store. Both records are bytes that
+// the caller lends (crates/records). A key that names set 0 is used without reading the store. include/labyrinth.h declares these functions.
+use cmac::Verified;
+ghost use mathlib.Core.Path.{_≡_};
+ghost use lib.ListN.{length};
+ghost use Rattle.forms.specs.Refusals.{outcome};
+ghost use Rattle.labyrinth.specs.Refusals.{blockRefusal};
+ghost use Rattle.modes.specs.Cbc.{cbcSeal, cbcOpen};
+ghost use Rattle.modes.specs.Ctr.{ctr};
+ghost use Rattle.modes.specs.Cmac.{valid};
+ghost use Rattle.modes.specs.Cmac.{tag as madeTag};
+ghost use Rattle.modes.specs.Refusals.{cbcRefusal, ctrRefusal, cmacRefusal};
+ghost use Rattle.one_shot.specs.OneShot.{yesByte};
+ghost use Rattle.records.specs.Lent.{lentNumber, lentE, lentU, lentSize};
+
+// Enciphers a block.
+#[no_mangle]
+pub extern "C" fn labyrinth_key_encipher(store: &[u8], working: &[u8], src: &[u8], dst: &mut [u8]) -> u8
+    ensures number { λ r. ⌜ r ≡ lentNumber (now (store .entry)) (now (working .entry)) (λ n. blockRefusal n (length (now (src .entry))) (length (now (dst .entry)))) ⌝ }
+    ensures block { λ r. ⌜ now (dst .exit) ≡ outcome r (lentE (now (store .entry)) (now (working .entry)) (now (src .entry))) (now (dst .entry)) ⌝ }
+{
+    if !records::fit(store.len(), working.len()) {
+        return 4;
+    }
+    let k = records::key_of(working);
+    if k.set == 0 {
+        return table_cipher::encipher_published(k, src, dst);
+    }
+    table_cipher::encipher_by_table(records::store_of(store), k, src, dst)
+}
+
+// Deciphers a block.
+#[no_mangle]
+pub extern "C" fn labyrinth_key_decipher(store: &[u8], working: &[u8], src: &[u8], dst: &mut [u8]) -> u8
+    ensures number { λ r. ⌜ r ≡ lentNumber (now (store .entry)) (now (working .entry)) (λ n. blockRefusal n (length (now (src .entry))) (length (now (dst .entry)))) ⌝ }
+    ensures block { λ r. ⌜ now (dst .exit) ≡ outcome r (lentU (now (store .entry)) (now (working .entry)) (now (src .entry))) (now (dst .entry)) ⌝ }
+{
+    if !records::fit(store.len(), working.len()) {
+        return 4;
+    }
+    let k = records::key_of(working);
+    if k.set == 0 {
+        return table_cipher::decipher_published(k, src, dst);
+    }
+    table_cipher::decipher_by_table(records::store_of(store), k, src, dst)
+}
+
+// Enciphers a block by the matrix.
+#[no_mangle]
+pub extern "C" fn labyrinth_key_encipher_by_matrix(store: &[u8], working: &[u8], src: &[u8], dst: &mut [u8]) -> u8
+    ensures number { λ r. ⌜ r ≡ lentNumber (now (store .entry)) (now (working .entry)) (λ n. blockRefusal n (length (now (src .entry))) (length (now (dst .entry)))) ⌝ }
+    ensures block { λ r. ⌜ now (dst .exit) ≡ outcome r (lentE (now (store .entry)) (now (working .entry)) (now (src .entry))) (now (dst .entry)) ⌝ }
+{
+    if !records::fit(store.len(), working.len()) {
+        return 4;
+    }
+    let k = records::key_of(working);
+    matrix_cipher::encipher_by_matrix(records::store_of(store), k, src, dst)
+}
+
+// Deciphers a block by the matrix.
+#[no_mangle]
+pub extern "C" fn labyrinth_key_decipher_by_matrix(store: &[u8], working: &[u8], src: &[u8], dst: &mut [u8]) -> u8
+    ensures number { λ r. ⌜ r ≡ lentNumber (now (store .entry)) (now (working .entry)) (λ n. blockRefusal n (length (now (src .entry))) (length (now (dst .entry)))) ⌝ }
+    ensures block { λ r. ⌜ now (dst .exit) ≡ outcome r (lentU (now (store .entry)) (now (working .entry)) (now (src .entry))) (now (dst .entry)) ⌝ }
+{
+    if !records::fit(store.len(), working.len()) {
+        return 4;
+    }
+    let k = records::key_of(working);
+    matrix_cipher::decipher_by_matrix(records::store_of(store), k, src, dst)
+}
+
+// Seals whole blocks by CBC.
+#[no_mangle]
+pub extern "C" fn labyrinth_key_cbc_seal(store: &[u8], working: &[u8], start: &[u8], src: &[u8], dst: &mut [u8]) -> u8
+    ensures number { λ r. ⌜ r ≡ lentNumber (now (store .entry)) (now (working .entry)) (λ n. cbcRefusal n (length (now (start .entry))) (length (now (src .entry))) (length (now (dst .entry)))) ⌝ }
+    ensures run { λ r. ⌜ now (dst .exit) ≡ outcome r (cbcSeal (lentE (now (store .entry)) (now (working .entry))) (lentSize (now (working .entry))) (now (start .entry)) (now (src .entry))) (now (dst .entry)) ⌝ }
+{
+    if !records::fit(store.len(), working.len()) {
+        return 4;
+    }
+    let k = records::key_of(working);
+    if k.set == 0 {
+        return cbc::seal_published(k, start, src, dst);
+    }
+    cbc::seal(records::store_of(store), k, start, src, dst)
+}
+
+// Opens whole blocks by CBC.
+#[no_mangle]
+pub extern "C" fn labyrinth_key_cbc_open(store: &[u8], working: &[u8], start: &[u8], src: &[u8], dst: &mut [u8]) -> u8
+    ensures number { λ r. ⌜ r ≡ lentNumber (now (store .entry)) (now (working .entry)) (λ n. cbcRefusal n (length (now (start .entry))) (length (now (src .entry))) (length (now (dst .entry)))) ⌝ }
+    ensures run { λ r. ⌜ now (dst .exit) ≡ outcome r (cbcOpen (lentU (now (store .entry)) (now (working .entry))) (lentSize (now (working .entry))) (now (start .entry)) (now (src .entry))) (now (dst .entry)) ⌝ }
+{
+    if !records::fit(store.len(), working.len()) {
+        return 4;
+    }
+    let k = records::key_of(working);
+    if k.set == 0 {
+        return cbc::open_published(k, start, src, dst);
+    }
+    cbc::open(records::store_of(store), k, start, src, dst)
+}
+
+// Seals or opens by CTR, from block q on.
+#[no_mangle]
+pub extern "C" fn labyrinth_key_ctr(store: &[u8], working: &[u8], start: &[u8], q: u64, src: &[u8], dst: &mut [u8]) -> u8
+    ensures number { λ r. ⌜ r ≡ lentNumber (now (store .entry)) (now (working .entry)) (λ n. ctrRefusal n (length (now (start .entry))) (length (now (src .entry))) (length (now (dst .entry)))) ⌝ }
+    ensures run { λ r. ⌜ now (dst .exit) ≡ outcome r (ctr (lentE (now (store .entry)) (now (working .entry))) (lentSize (now (working .entry))) (now (start .entry)) q (now (src .entry))) (now (dst .entry)) ⌝ }
+{
+    if !records::fit(store.len(), working.len()) {
+        return 4;
+    }
+    let k = records::key_of(working);
+    if k.set == 0 {
+        return ctr::run_published(k, start, q, src, dst);
+    }
+    ctr::run(records::store_of(store), k, start, q, src, dst)
+}
+
+// Makes a message's tag, as long as tag.
+#[no_mangle]
+pub extern "C" fn labyrinth_key_cmac(store: &[u8], working: &[u8], message: &[u8], tag: &mut [u8]) -> u8
+    ensures number { λ r. ⌜ r ≡ lentNumber (now (store .entry)) (now (working .entry)) (λ n. cmacRefusal n (length (now (tag .entry)))) ⌝ }
+    ensures tag { λ r. ⌜ now (tag .exit) ≡ outcome r (madeTag (lentE (now (store .entry)) (now (working .entry))) (length (now (tag .entry))) (now (message .entry))) (now (tag .entry)) ⌝ }
+{
+    if !records::fit(store.len(), working.len()) {
+        return 4;
+    }
+    let k = records::key_of(working);
+    if k.set == 0 {
+        return cmac::make_published(k, message, tag);
+    }
+    cmac::make(records::store_of(store), k, message, tag)
+}
+
+// A given tag verified, by the set that the key names.
+fn verified(store: &[u8], working: &[u8], message: &[u8], tag: &[u8]) -> Verified
+    ensures { λ r. ⌜ Verifies (now (store .entry)) (now (working .entry)) (now (message .entry)) (now (tag .entry)) r ⌝ }
+{
+    let k = records::key_of(working);
+    if k.set == 0 {
+        return cmac::verify_published(k, message, tag);
+    }
+    cmac::verify(records::store_of(store), k, message, tag)
+}
+
+// Verifies a given tag. Every call sets yes.
+#[no_mangle]
+pub extern "C" fn labyrinth_key_cmac_verify(store: &[u8], working: &[u8], message: &[u8], tag: &[u8], yes: &mut u8) -> u8
+    ensures number { λ r. ⌜ r ≡ lentNumber (now (store .entry)) (now (working .entry)) (λ n. cmacRefusal n (length (now (tag .entry)))) ⌝ }
+    ensures yes { λ r. ⌜ now (yes .exit) ≡ yesByte r (valid (lentE (now (store .entry)) (now (working .entry))) (now (message .entry)) (now (tag .entry))) ⌝ }
+{
+    if !records::fit(store.len(), working.len()) {
+        *yes = 0;
+        return 4;
+    }
+    let v = verified(store, working, message, tag);
+    *yes = one_shot::as_byte(v.yes);
+    v.number
+}

@@ -1,0 +1,154 @@
+-- What one store sealed another opens, if both have the key's set alike; and one store kept throughout has a set as it was, unless it was loaded anew.
+-- Assumes nothing.
+use mathlib.Core.Path.{_≡_, refl, sym, ap, ap₂, _∙_}
+use mathlib.Core.Bool.{Bool, true, false, _&&_}
+use mathlib.Core.List.{List, [], _∷_}
+use Prim.Native.Nat.{ℕ, _*_}
+use borrow.Author.Tests.{eqb-false}
+use lib.Dec.{eqb}
+use lib.ListN.{length}
+use Rattle.forms.specs.Refusals.{outcome}
+use Rattle.forms.proofs.Booleans.{or-neither}
+use Rattle.forms.proofs.Refusals.{unless-zero}
+use Rattle.labyrinth.specs.declared.Expanded.{Expanded}
+use Rattle.labyrinth.specs.Cipher.{Parts, partsOf}
+use Rattle.labyrinth.specs.Keys.{E, U}
+use Rattle.labyrinth.specs.Refusals.{legal, underKey, underLength, blockRefusal, expandRefusal, expansion}
+use Rattle.labyrinth.proofs.Undo.{U-E, E-U}
+use Rattle.labyrinth.proofs.Refusals.{block-iff}
+use Rattle.labyrinth.proofs.Expansion.{expansion-number}
+use Rattle.modes.specs.Cbc.{cbcOpen}
+use Rattle.modes.specs.Ctr.{ctr}
+use Rattle.modes.specs.Refusals.{cbcRefusal, ctrRefusal}
+use Rattle.modes.proofs.Again.{cbc-again, ctr-again}
+use Rattle.sets.specs.declared.Set.{Set}
+use Rattle.sets.specs.declared.Store.{Store}
+use Rattle.sets.specs.Sets.{setIn, substitutionIn, rowIn, partsIn, loaded, loadRefusal, load, take}
+use Rattle.sets.proofs.Sets.{loaded-sound, loaded-alike}
+use Rattle.publishers.specs.Calls.{Call, loads, takes, uses, Answer, number, key, buffer, verdict, left, named, used, answer, after, afterAll, renewed}
+use Rattle.publishers.specs.Pages.{SameSet, KeptUnlessRenewed, SetsUndo, BlocksComeBackIn, CbcOpensAgainIn, CtrOpensAgainIn, ExpandsIn}
+use Rattle.publishers.proofs.Stores.{load-is, refused-load, load-leaves, take-sets, same-sets}
+
+-- ---- one store kept throughout
+
+after-load : (s : Store) (q j : ℕ) (v g : List ℕ) (i : ℕ) → (eqb j i && eqb (loadRefusal s q j v g) 0) ≡ false → setIn (load s q j v g .store) i ≡ setIn s i
+after-load s q j v g i h = go (eqb j i) refl h
+  where
+    go : (a : Bool) → eqb j i ≡ a → (a && eqb (loadRefusal s q j v g) 0) ≡ false → setIn (load s q j v g .store) i ≡ setIn s i
+    go true x e = ap (λ (t : Store). setIn t i) (refused-load s q j v g (λ z. eqb-false (loadRefusal s q j v g) 0 e (sym (load-is s q j v g) ∙ z)))
+    go false x e = load-leaves s q j i v g (λ z. eqb-false j i x (sym z)) .0
+
+pub kept : (i : ℕ) (s : Store) (cs : List Call) → renewed i s cs ≡ false → setIn s i ≡ setIn (afterAll s cs) i
+unfolding renewed afterAll after
+kept i s [] e = refl
+kept i s (loads q j v g ∷ cs) e =
+    let k = or-neither (eqb j i && eqb (loadRefusal s q j v g) 0) _ e in
+    sym (after-load s q j v g i (k .0)) ∙ kept i (load s q j v g .store) cs (k .1)
+kept i s (takes q j ∷ cs) e = sym (same-sets (take s q j .store) s i (take-sets s q j)) ∙ kept i (take s q j .store) cs e
+kept i s (uses q u ∷ cs) e = kept i s cs e
+
+pub kept-unless-renewed : KeptUnlessRenewed
+unfolding substitutionIn rowIn
+kept-unless-renewed i s cs l e =
+    let k = kept i s cs e in
+    record {
+      here = l;
+      there = loaded-alike (afterAll s cs) s i (sym k) ∙ l;
+      substitution = ap (λ (v : Set). v .substitution) k;
+      row = ap (λ (v : Set). v .row) k;
+    }
+
+-- ---- E and U by a loaded set
+
+pub sets-undo : SetsUndo
+sets-undo s i l n ws b w e h = (U-E (partsIn s i) (loaded-sound s i l) n ws b w e h, E-U (partsIn s i) (loaded-sound s i l) n ws b w e h)
+
+-- ---- over two stores
+
+same-parts : {i : ℕ} {s t : Store} → SameSet i s t → partsIn s i ≡ partsIn t i
+unfolding partsIn
+same-parts h = ap₂ partsOf (h .substitution) (h .row)
+
+-- what an answer of 0 says: the operation's own number is 0, and the buffer holds the result
+numberOf : Answer → ℕ
+numberOf (number r) = r
+numberOf (key e) = e .number
+numberOf (buffer r bs) = r
+numberOf (verdict v) = v .number
+
+bytesOf : Answer → List ℕ
+bytesOf (number r) = []
+bytesOf (key e) = []
+bytesOf (buffer r bs) = bs
+bytesOf (verdict v) = []
+
+expandedOf : Expanded → Answer → Expanded
+expandedOf d (number r) = d
+expandedOf d (key e) = e
+expandedOf d (buffer r bs) = d
+expandedOf d (verdict v) = d
+
+under-zero : (n : ℕ) (is : Bool) (own : ℕ) → underKey n is own ≡ 0 → own ≡ 0
+unfolding underKey
+under-zero n is own e = unless-zero is 14 own (unless-zero (legal n) 0 _ e .1) .1
+
+answered : (n : ℕ) (is : Bool) (own : ℕ) (x before : List ℕ) {y : List ℕ} → left (underKey n is own) x before ≡ buffer 0 y → (own ≡ 0) × (x ≡ y)
+unfolding numberOf bytesOf
+answered n is own x before e =
+    let z : underKey n is own ≡ 0 = ap numberOf e in
+    (under-zero n is own z, sym (ap (λ (r : ℕ). outcome r x before) z) ∙ ap bytesOf e)
+
+pub blocks-come-back : BlocksComeBackIn
+unfolding answer used named
+blocks-come-back s t k h w block b = (
+  λ p q before between room opened e f.
+      let a = answered n (loaded s i) (blockRefusal n (length block) (length before)) _ before e in
+      let d = answered n (loaded t i) (blockRefusal n (length between) (length room)) _ room f in
+      sym (d .1) ∙ ap₂ (λ (m : Parts) (x : List ℕ). U m n ws x) (sym (same-parts h)) (sym (a .1)) ∙ undone (block-iff n (length block) (length before) .0 (a .0) .1) .0,
+  λ p q before between room opened e f.
+      let a = answered n (loaded s i) (blockRefusal n (length block) (length before)) _ before e in
+      let d = answered n (loaded t i) (blockRefusal n (length between) (length room)) _ room f in
+      sym (d .1) ∙ ap₂ (λ (m : Parts) (x : List ℕ). E m n ws x) (sym (same-parts h)) (sym (a .1)) ∙ undone (block-iff n (length block) (length before) .0 (a .0) .1) .1,
+)
+  where
+    n : ℕ
+    n = k .n
+
+    i : ℕ
+    i = k .set
+
+    ws : List ℕ
+    ws = k .words
+
+    undone : length block ≡ 16 * n → (U (partsIn s i) n ws (E (partsIn s i) n ws block) ≡ block) × (E (partsIn s i) n ws (U (partsIn s i) n ws block) ≡ block)
+    undone l = sets-undo s i (h .here) n ws block w l b
+
+pub cbc-opens-again : CbcOpensAgainIn
+unfolding answer used named
+cbc-opens-again s t k h w start page hs hp p q before between room opened e f =
+    let n = k .n in
+    let m = partsIn s (k .set) in
+    let a = answered n (loaded s (k .set)) (cbcRefusal n (length start) (length page) (length before)) _ before e in
+    let d = answered n (loaded t (k .set)) (cbcRefusal n (length start) (length between) (length room)) _ room f in
+    sym (d .1)
+    ∙ ap₂ (λ (m : Parts) (x : List ℕ). cbcOpen (U m n (k .words)) (16 * n) start x) (sym (same-parts h)) (sym (a .1))
+    ∙ cbc-again m n (k .words) start page (length before) (loaded-sound s (k .set) (h .here)) w hs hp refl (a .0)
+
+pub ctr-opens-again : CtrOpensAgainIn
+unfolding answer used named
+ctr-opens-again s t k h start at page p q before between room opened e f =
+    let n = k .n in
+    let a = answered n (loaded s (k .set)) (ctrRefusal n (length start) (length page) (length before)) _ before e in
+    let d = answered n (loaded t (k .set)) (ctrRefusal n (length start) (length between) (length room)) _ room f in
+    sym (d .1)
+    ∙ ap₂ (λ (m : Parts) (x : List ℕ). ctr (E m n (k .words)) (16 * n) start at x) (sym (same-parts h)) (sym (a .1))
+    ∙ ctr-again (partsIn s (k .set)) n (k .words) start page (length before) at refl (a .0)
+
+pub expands-in : ExpandsIn
+unfolding answer used named expandedOf expansion
+expands-in x s i h p n l secret e f z =
+    let r = underLength n l (loaded x i) (expandRefusal n l (length secret)) in
+    let g : expansion (partsIn x i .SM) i n l secret r ≡ e = ap (expandedOf e) f in
+    let o : r ≡ 0 = sym (expansion-number (partsIn x i .SM) i n l secret r) ∙ ap (λ (e : Expanded). e .number) g ∙ z in
+    ap (λ (e : Expanded). e .key) (sym g)
+    ∙ ap₂ (λ (m : Parts) (r : ℕ). expansion (m .SM) i n l secret r .key) (same-parts h) o

@@ -1,0 +1,4 @@
+pub mod Calls
+pub mod Stores
+pub mod Isolation
+pub mod Pages
