@@ -15,7 +15,12 @@ ghost use Rattle.records.specs.Lent.{lentNumber, lentE, lentU, lentSize};
 
 // Enciphers a block.
 #[no_mangle]
-pub extern "C" fn labyrinth_key_encipher(store: &[u8], working: &[u8], src: &[u8], dst: &mut [u8]) -> u8
+pub extern "C" fn labyrinth_key_encipher(
+    store: &[u8],
+    working: &[u8],
+    src: &[u8],
+    dst: &mut [u8],
+) -> u8
     ensures number { λ r. ⌜ r ≡ lentNumber (now (store .entry)) (now (working .entry)) (λ n. blockRefusal n (length (now (src .entry))) (length (now (dst .entry)))) ⌝ }
     ensures block { λ r. ⌜ now (dst .exit) ≡ outcome r (lentE (now (store .entry)) (now (working .entry)) (now (src .entry))) (now (dst .entry)) ⌝ }
 {
@@ -31,7 +36,12 @@ pub extern "C" fn labyrinth_key_encipher(store: &[u8], working: &[u8], src: &[u8
 
 // Deciphers a block.
 #[no_mangle]
-pub extern "C" fn labyrinth_key_decipher(store: &[u8], working: &[u8], src: &[u8], dst: &mut [u8]) -> u8
+pub extern "C" fn labyrinth_key_decipher(
+    store: &[u8],
+    working: &[u8],
+    src: &[u8],
+    dst: &mut [u8],
+) -> u8
     ensures number { λ r. ⌜ r ≡ lentNumber (now (store .entry)) (now (working .entry)) (λ n. blockRefusal n (length (now (src .entry))) (length (now (dst .entry)))) ⌝ }
     ensures block { λ r. ⌜ now (dst .exit) ≡ outcome r (lentU (now (store .entry)) (now (working .entry)) (now (src .entry))) (now (dst .entry)) ⌝ }
 {
@@ -47,7 +57,12 @@ pub extern "C" fn labyrinth_key_decipher(store: &[u8], working: &[u8], src: &[u8
 
 // Enciphers a block by the matrix.
 #[no_mangle]
-pub extern "C" fn labyrinth_key_encipher_by_matrix(store: &[u8], working: &[u8], src: &[u8], dst: &mut [u8]) -> u8
+pub extern "C" fn labyrinth_key_encipher_by_matrix(
+    store: &[u8],
+    working: &[u8],
+    src: &[u8],
+    dst: &mut [u8],
+) -> u8
     ensures number { λ r. ⌜ r ≡ lentNumber (now (store .entry)) (now (working .entry)) (λ n. blockRefusal n (length (now (src .entry))) (length (now (dst .entry)))) ⌝ }
     ensures block { λ r. ⌜ now (dst .exit) ≡ outcome r (lentE (now (store .entry)) (now (working .entry)) (now (src .entry))) (now (dst .entry)) ⌝ }
 {
@@ -60,7 +75,12 @@ pub extern "C" fn labyrinth_key_encipher_by_matrix(store: &[u8], working: &[u8],
 
 // Deciphers a block by the matrix.
 #[no_mangle]
-pub extern "C" fn labyrinth_key_decipher_by_matrix(store: &[u8], working: &[u8], src: &[u8], dst: &mut [u8]) -> u8
+pub extern "C" fn labyrinth_key_decipher_by_matrix(
+    store: &[u8],
+    working: &[u8],
+    src: &[u8],
+    dst: &mut [u8],
+) -> u8
     ensures number { λ r. ⌜ r ≡ lentNumber (now (store .entry)) (now (working .entry)) (λ n. blockRefusal n (length (now (src .entry))) (length (now (dst .entry)))) ⌝ }
     ensures block { λ r. ⌜ now (dst .exit) ≡ outcome r (lentU (now (store .entry)) (now (working .entry)) (now (src .entry))) (now (dst .entry)) ⌝ }
 {
@@ -73,7 +93,13 @@ pub extern "C" fn labyrinth_key_decipher_by_matrix(store: &[u8], working: &[u8],
 
 // Seals whole blocks by CBC.
 #[no_mangle]
-pub extern "C" fn labyrinth_key_cbc_seal(store: &[u8], working: &[u8], start: &[u8], src: &[u8], dst: &mut [u8]) -> u8
+pub extern "C" fn labyrinth_key_cbc_seal(
+    store: &[u8],
+    working: &[u8],
+    start: &[u8],
+    src: &[u8],
+    dst: &mut [u8],
+) -> u8
     ensures number { λ r. ⌜ r ≡ lentNumber (now (store .entry)) (now (working .entry)) (λ n. cbcRefusal n (length (now (start .entry))) (length (now (src .entry))) (length (now (dst .entry)))) ⌝ }
     ensures run { λ r. ⌜ now (dst .exit) ≡ outcome r (cbcSeal (lentE (now (store .entry)) (now (working .entry))) (lentSize (now (working .entry))) (now (start .entry)) (now (src .entry))) (now (dst .entry)) ⌝ }
 {
@@ -89,7 +115,13 @@ pub extern "C" fn labyrinth_key_cbc_seal(store: &[u8], working: &[u8], start: &[
 
 // Opens whole blocks by CBC.
 #[no_mangle]
-pub extern "C" fn labyrinth_key_cbc_open(store: &[u8], working: &[u8], start: &[u8], src: &[u8], dst: &mut [u8]) -> u8
+pub extern "C" fn labyrinth_key_cbc_open(
+    store: &[u8],
+    working: &[u8],
+    start: &[u8],
+    src: &[u8],
+    dst: &mut [u8],
+) -> u8
     ensures number { λ r. ⌜ r ≡ lentNumber (now (store .entry)) (now (working .entry)) (λ n. cbcRefusal n (length (now (start .entry))) (length (now (src .entry))) (length (now (dst .entry)))) ⌝ }
     ensures run { λ r. ⌜ now (dst .exit) ≡ outcome r (cbcOpen (lentU (now (store .entry)) (now (working .entry))) (lentSize (now (working .entry))) (now (start .entry)) (now (src .entry))) (now (dst .entry)) ⌝ }
 {
@@ -105,7 +137,14 @@ pub extern "C" fn labyrinth_key_cbc_open(store: &[u8], working: &[u8], start: &[
 
 // Seals or opens by CTR, from block q on.
 #[no_mangle]
-pub extern "C" fn labyrinth_key_ctr(store: &[u8], working: &[u8], start: &[u8], q: u64, src: &[u8], dst: &mut [u8]) -> u8
+pub extern "C" fn labyrinth_key_ctr(
+    store: &[u8],
+    working: &[u8],
+    start: &[u8],
+    q: u64,
+    src: &[u8],
+    dst: &mut [u8],
+) -> u8
     ensures number { λ r. ⌜ r ≡ lentNumber (now (store .entry)) (now (working .entry)) (λ n. ctrRefusal n (length (now (start .entry))) (length (now (src .entry))) (length (now (dst .entry)))) ⌝ }
     ensures run { λ r. ⌜ now (dst .exit) ≡ outcome r (ctr (lentE (now (store .entry)) (now (working .entry))) (lentSize (now (working .entry))) (now (start .entry)) q (now (src .entry))) (now (dst .entry)) ⌝ }
 {
@@ -121,7 +160,12 @@ pub extern "C" fn labyrinth_key_ctr(store: &[u8], working: &[u8], start: &[u8], 
 
 // Makes a message's tag, as long as tag.
 #[no_mangle]
-pub extern "C" fn labyrinth_key_cmac(store: &[u8], working: &[u8], message: &[u8], tag: &mut [u8]) -> u8
+pub extern "C" fn labyrinth_key_cmac(
+    store: &[u8],
+    working: &[u8],
+    message: &[u8],
+    tag: &mut [u8],
+) -> u8
     ensures number { λ r. ⌜ r ≡ lentNumber (now (store .entry)) (now (working .entry)) (λ n. cmacRefusal n (length (now (tag .entry)))) ⌝ }
     ensures tag { λ r. ⌜ now (tag .exit) ≡ outcome r (madeTag (lentE (now (store .entry)) (now (working .entry))) (length (now (tag .entry))) (now (message .entry))) (now (tag .entry)) ⌝ }
 {
@@ -148,7 +192,13 @@ fn verified(store: &[u8], working: &[u8], message: &[u8], tag: &[u8]) -> Verifie
 
 // Verifies a given tag. Every call sets yes.
 #[no_mangle]
-pub extern "C" fn labyrinth_key_cmac_verify(store: &[u8], working: &[u8], message: &[u8], tag: &[u8], yes: &mut u8) -> u8
+pub extern "C" fn labyrinth_key_cmac_verify(
+    store: &[u8],
+    working: &[u8],
+    message: &[u8],
+    tag: &[u8],
+    yes: &mut u8,
+) -> u8
     ensures number { λ r. ⌜ r ≡ lentNumber (now (store .entry)) (now (working .entry)) (λ n. cmacRefusal n (length (now (tag .entry)))) ⌝ }
     ensures yes { λ r. ⌜ now (yes .exit) ≡ yesByte r (valid (lentE (now (store .entry)) (now (working .entry))) (now (message .entry)) (now (tag .entry))) ⌝ }
 {
