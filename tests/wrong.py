@@ -12,6 +12,7 @@ all their cases first:
     tape_program  the tapes of tests/tapes.py, by the papers and vectors
     rows_c        the C interface's functions on rows, by the archivists' product
     lines         tests/compare_c.py's, with one seed, through the C interface: long runs and damaged calls
+    stores        tests/stores.py's, through the C interface: keys that name a set, stores and histories
     inner         tests/wrong/inner.txt, functions called by themselves, by what their definitions say, worked out here
 
 A program that is ended by a signal or does not end answers otherwise. An edit of a definition or a contract has no program, and is listed as such. Exit
@@ -210,14 +211,17 @@ def program(crate, sources, place):
 
 
 def through_c(crate, sources, place):
-    """One of the two libraries for C."""
+    """One of the libraries for C."""
     root = os.path.join(sources.get(crate) or source(crate), "lib.rt")
     return archive(crate, root, [name for name in reached((crate,)) if name != crate], sources, os.path.join(place, f"{crate}.a"))
 
 
+LINES = "labyrinth_c", "rows_c", "stores_c", "keys_c"  # what tests/labyrinth_lines.c calls
+
+
 def lines_program(sources, place):
     out = os.path.join(place, "lines")
-    made = [through_c(crate, sources, place) for crate in ("labyrinth_c", "rows_c")]
+    made = [through_c(crate, sources, place) for crate in LINES]
     command(["gcc", "-std=c11", "-O1", "-I", os.path.join(ROOT, "include"), "-o", out, os.path.join(HERE, "labyrinth_lines.c"), *made], "lines")
     return out
 
@@ -312,6 +316,25 @@ def shown_by_lines(path):
             return f"request {i} '{requests[i][:24].strip()}..': {differs}"
     if len(got) != len(cases) or ended:
         return f"request {len(got)} '{requests[min(len(got), len(cases) - 1)][:24].strip()}..': {ended or 'another count of answers'}"
+    return None
+
+
+@functools.cache
+def stored():
+    """The requests of tests/stores.py, with their kinds and what they must be answered."""
+    test = loaded("stores")
+    made = test.cases(test.SEED)[0]
+    return [(kind, test.line(request), test.expected(request)) for kind, request in made]
+
+
+def shown_by_stores(path):
+    wrote, ended = run(["stdbuf", "-oL", path], "".join(line for _, line, _ in stored()).encode())
+    got = wrote.decode(errors="replace").split("\n")[:-1]
+    for i, ((kind, line, want), answer) in enumerate(zip(stored(), got)):
+        if answer != want:
+            return f"request {i}, {kind}, '{line[:24].strip()}..': {apart(want, answer)}"
+    if len(got) != len(stored()) or ended:
+        return f"request {len(got)}: {ended or 'another count of answers'}"
     return None
 
 
@@ -553,7 +576,8 @@ PROGRAMS = {
         functools.partial(shown_by_calls, "rows_c"),
         lambda: None,
     ),
-    "lines": (("labyrinth_c", "rows_c"), lines_program, shown_by_lines, asked),
+    "lines": (LINES, lines_program, shown_by_lines, asked),
+    "stores": (LINES, lines_program, shown_by_stores, stored),
     "inner": (tuple(INNER), inner, functools.partial(shown_by_calls, "inner"), lambda: None),
 }
 
