@@ -14,6 +14,7 @@ all their cases first:
     lines         tests/compare_c.py's, with one seed, through the C interface: long runs and damaged calls
     stores        tests/stores.py's, through the C interface: keys that name a set, stores and histories
     inner         tests/wrong/inner.txt, functions called by themselves, by what their definitions say, worked out here
+    records       tests/c_interface, stores and working keys through the C interface: numbers by the papers, bytes by round trips and by the other functions
 
 A program that is ended by a signal or does not end answers otherwise. An edit of a definition or a contract has no program, and is listed as such. Exit
 status 1 if an edit is shown by no case and is no exception below, or is one and is shown, or is not there."""
@@ -226,6 +227,35 @@ def lines_program(sources, place):
     made = [through_c(crate, sources, place) for crate in LINES]
     command(["gcc", "-std=c11", "-O1", "-I", os.path.join(ROOT, "include"), "-o", out, os.path.join(HERE, "labyrinth_lines.c"), *made], "lines")
     return out
+
+
+KEPT = tempfile.TemporaryDirectory()
+
+
+@functools.cache
+def kept(crate):
+    return through_c(crate, {}, KEPT.name)
+
+
+def unedited(crate):
+    """One of the libraries for C as it stands, compiled once."""
+    with LOCKS["kept"]:
+        return kept(crate)
+
+
+def records_program(sources, place):
+    out = os.path.join(place, "records")
+    made = [through_c(crate, sources, place) if set(sources) & set(reached((crate,))) else unedited(crate) for crate in PROGRAMS["records"][0]]
+    command(["gcc", "-std=gnu11", "-O1", "-I", os.path.join(ROOT, "include"), "-o", out, *sorted(glob.glob(os.path.join(HERE, "c_interface", "*.c"))), *made], "records")
+    return out
+
+
+def shown_by_records(path):
+    """What it finds wrong first."""
+    done = subprocess.run(["timeout", str(6 * LIMIT), path, "--records", "--seed", "1"], capture_output=True, text=True)
+    if done.returncode == 0:
+        return None
+    return next(iter(done.stdout.split("\n")), "").removeprefix("c_interface: ") or f"it ends with {done.returncode}"
 
 
 def shared(made, place):
@@ -592,6 +622,7 @@ PROGRAMS = {
     "lines": (LINES, lines_program, shown_by_lines, asked),
     "stores": (LINES, lines_program, shown_by_stores, stored),
     "inner": (tuple(INNER), inner, functools.partial(shown_by_calls, "inner"), lambda: None),
+    "records": (("labyrinth_c", "rows_c", "stores_c", "keys_c"), records_program, shown_by_records, lambda: None),
 }
 
 
@@ -606,7 +637,7 @@ def shown(name, sources):
         return test(build(sources, place))
 
 
-LOCKS = {name: threading.Lock() for name in PROGRAMS}
+LOCKS = {name: threading.Lock() for name in (*PROGRAMS, "kept")}
 PASSED = []  # programs that answer every case as expected, unedited
 
 

@@ -15,7 +15,8 @@ pub extern "C" fn labyrinth_store_fresh(store: &mut [u8]) -> u8
     ensures number { λ r. ⌜ r ≡ storeNumber (length (now (store .entry))) 0 ⌝ }
     ensures store { λ r. ⌜ now (store .exit) ≡ outcome r (storeBytes freshStore) (now (store .entry)) ⌝ }
 {
-    if store.len() != 1072 {
+    let size = store.len();
+    if size != 1072 {
         return 4;
     }
     records::put_store(sets::fresh(), store);
@@ -64,11 +65,11 @@ pub extern "C" fn labyrinth_store_take(store: &mut [u8], publisher: usize, set: 
     if store.len() != 1072 {
         return 4;
     }
-    let changed = sets::take(records::store_of(store), publisher, set);
-    if changed.number != 0 {
-        return changed.number;
+    let taken = sets::take(records::store_of(store), publisher, set);
+    if taken.number != 0 {
+        return taken.number;
     }
-    let after = changed.store;
+    let after = taken.store;
     records::put_store(after, store);
     0
 }
