@@ -162,7 +162,7 @@ for example in page convert; do
     done
 done
 
-# ---- numbers, NULL, runs, tags, rows and verdicts, stack, lent memory
+# ---- numbers, NULL, runs, tags, rows and verdicts, stores and working keys, stack, lent memory
 gcc -std=gnu11 -O2 $warnings -Wl,-z,now -I target/dist tests/c_interface/*.c "$archive" -o "$work/c_interface" || { echo "c_interface: not compiled"; exit 1; }
 "$work/c_interface" "$@" || wrong "tests/c_interface failed"
 [ $status -eq 0 ] || echo "c_interface: FAILED"

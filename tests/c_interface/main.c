@@ -2,7 +2,8 @@
  * rows, verdicts on rows, stores and working keys, stack use, and lent memory; and that this program notices what it is to notice, by stubs that stand in the
  * library's place and do wrong. tests/c_interface.sh builds and runs it.
  *
- *     c_interface [--long] [--seed N]      the seed is for the lent memory; without it one is taken from the clock, and printed */
+ *     c_interface [--long | --records] [--seed N]      the seed is for the lent memory; without it one is taken from the clock, and printed;
+ *                                                      --records tries stores and working keys alone, and no stubs */
 #include <inttypes.h>
 #include <time.h>
 
@@ -53,23 +54,31 @@ void fill(uint8_t *at, size_t len)
 
 int main(int count, char **words)
 {
-    int large = 0;
+    int large = 0, only_records = 0;
     struct timespec now;
     clock_gettime(CLOCK_REALTIME, &now);
     uint64_t seed = (uint64_t)now.tv_sec * 1000000 + (uint64_t)now.tv_nsec / 1000;
     for (int i = 1; i < count; i++)
         if (strcmp(words[i], "--long") == 0) {
             large = 1;
+        } else if (strcmp(words[i], "--records") == 0) {
+            only_records = 1;
         } else if (strcmp(words[i], "--seed") == 0 && i + 1 < count) {
             char *end;
             seed = strtoull(words[++i], &end, 10);
             if (*end || end == words[i]) return fprintf(stderr, "c_interface: a seed is a number\n"), 2;
         } else {
-            return fprintf(stderr, "usage: c_interface [--long] [--seed N]\n"), 2;
+            return fprintf(stderr, "usage: c_interface [--long | --records] [--seed N]\n"), 2;
         }
     lend();
     paint();
     chance = seed;
+    size_t of_records;
+    if (only_records) {
+        long lent = records(seed, large, &of_records);
+        printf("c_interface: %ld calls of stores and working keys (seed %" PRIu64 "): %ld wrong\n", lent, seed, failures);
+        return failures != 0;
+    }
     enum { CALLS = 342541 };
     long calls = numbers(library, KINDS) + far_lengths(library);
     if (calls != CALLS) wrong("%ld numbers tried, not %d", calls, CALLS);
@@ -78,7 +87,7 @@ int main(int count, char **words)
     runs(300); /* over 8 KiB at n = 2 and 4, where the eight tables are used */
     runs(511);
     long bits = all_tags(library), made = row_laws(library, 4096), judged = verdicts(library, 100);
-    size_t each[OPS + 1], most = stack(library, large, each), of_records;
+    size_t each[OPS + 1], most = stack(library, large, each);
     long cases = large ? 500000 : 10000;
     for (int place = PLACE_END; place <= PLACE_ANY; place++) {
         int died = memory(library, KINDS, seed + (uint64_t)place, cases, place);

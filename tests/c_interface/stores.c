@@ -213,8 +213,8 @@ static const uint64_t ns[] = {1, 2, 4, 0, 3, 5, ((uint64_t)1 << 32) + 1, UINT64_
 
 static size_t record_lengths[2][5] = {{STORE_LEN, 0, STORE_LEN - 1, STORE_LEN + 1, SET}, {WORKING_LEN, 0, WORKING_LEN - 1, WORKING_LEN + 1, 16}};
 
-/* Loading and taking: each publisher, set, mark, substitution, row and length with each. */
-static void store_grid(void)
+/* Loading and taking: each publisher, set, mark, substitution, row and length with each. The grids of one function, or, for WHATS, of all. */
+static void store_grid(enum what only)
 {
     static const uint64_t marks[][2] = {{4, 4}, {1, 4}, {4, 2}, {3, 3}, {0, 0}, {UINT64_MAX, 5}, {((uint64_t)1 << 32) + 1, 257}};
     for (int s = 0; s < 5; s++)
@@ -224,10 +224,10 @@ static void store_grid(void)
                     struct asked q = {.a = publishers[p], .b = sets[i], .len = {record_lengths[0][s]}};
                     by_hand(space[STORE] + MARGIN, marks[m][0], marks[m][1]);
                     q.what = TAKE;
-                    one_call(&q);
+                    if (only == WHATS || only == TAKE) one_call(&q);
                     q.what = FRESH;
                     if (p == 0 && i == 0) one_call(&q);
-                    for (int way = 0; way < 5 * 4; way++) {
+                    for (int way = 0; way < 5 * 4 && (only == WHATS || only == LOAD); way++) {
                         static const size_t substitutions[] = {256, 256, 255, 257, 0}, rows[] = {8, 8, 7, 0};
                         by_hand(space[STORE] + MARGIN, marks[m][0], marks[m][1]);
                         shuffle(space[FIRST] + MARGIN);
@@ -244,9 +244,9 @@ static void store_grid(void)
 }
 
 /* The rest: each record's length, n, l, set and other length with each. */
-static void key_grid(void)
+static void key_grid(enum what only)
 {
-    for (int what = EXPAND; what < WHATS; what++)
+    for (int what = only < WHATS ? only : EXPAND; what < (only < WHATS ? (int)only + 1 : WHATS); what++)
         for (int s = 0; s < 5 * 5; s++)
             for (int i = 0; i < COUNT(ns); i++)
                 for (int j = 0; j < COUNT(sets); j++)
@@ -275,16 +275,16 @@ static void key_grid(void)
                     }
 }
 
-static void grids(void)
+/* a bit for each number that a function gives */
+static const int given_by[WHATS] = {0x11, 0x1E011, 0x8011, 0x801F, 0x8033, 0x8033, 0x8033, 0x8033, 0x8073, 0x8073, 0x8073, 0x9813, 0x9813};
+
+static void grids(enum what only)
 {
-    /* a bit for each number that a function gives */
-    static const int given_by[WHATS] = {0x11,    0x1E011, 0x8011,  0x801F,  0x8033,  0x8033, 0x8033,
-                                        0x8033, 0x8073, 0x8073, 0x8073 & ~0, 0x9813, 0x9813};
     memset(seen, 0, sizeof seen);
     for (int b = 0; b < LENTS; b++) fill(space[b], sizeof space[b]);
-    store_grid();
-    key_grid();
-    if (enough()) return;
+    if (only == WHATS || only <= TAKE) store_grid(only);
+    if (only == WHATS || only > TAKE) key_grid(only);
+    if (enough() || only != WHATS) return;
     for (int what = 0; what < WHATS; what++)
         for (int number = 0; number <= 16; number++)
             if ((given_by[what] >> number & 1) != (seen[what][number] > 0))
@@ -720,7 +720,7 @@ static long tried_all(uint64_t seed)
     chance = seed;
     history(200);
     if (!failures) set_laws(2);
-    if (!failures) grids();
+    if (!failures) grids(faulty.what);
     if (!failures) far_records();
     found = failures;
     failures = before;
@@ -773,7 +773,7 @@ int try_record_stubs(uint64_t seed)
         trials += noticed(tried_all(seed) > 0, "alters a bit");
         faulty.fault = TOUCHES;
         for (faulty.from = 1; faulty.from <= 16 && what != CHECK; faulty.from++)
-            if (seen[what][faulty.from]) trials += noticed(tried_all(seed) > 0, "touches what it is to keep, with the number");
+            if (given_by[what] >> faulty.from & 1) trials += noticed(tried_all(seed) > 0, "touches what it is to keep, with the number");
         for (int b = 0; b < LENTS; b++) {
             if (!takes(faulty.what, (enum lent)b)) continue;
             faulty.lent = (enum lent)b;
@@ -809,7 +809,7 @@ long records(uint64_t seed, int large, size_t *most)
     history(large ? 100000 : 4000);
     for (size_t blocks = 0; blocks < 6; blocks++) set_laws(blocks);
     set_laws(300); /* over 8 KiB at n = 2 and 4, where the eight tables are used */
-    grids();
+    grids(WHATS);
     asked_calls += far_records();
     *most = records_stack(each);
     for (int what = 0; large && what < WHATS; what++) printf("c_interface: %s: %zu bytes of stack\n", names[what], each[what]);

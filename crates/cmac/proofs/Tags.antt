@@ -10,7 +10,16 @@ use lib.Dec.{eqb}
 use lib.ListN.{length, take, drop, drop-of-length-le}
 use Rattle.forms.specs.Refusals.{outcome}
 use Rattle.forms.specs.Strings.{same}
+use Rattle.labyrinth.specs.Cipher.{Parts, article}
+use Rattle.labyrinth.specs.Keys.{E}
+use Rattle.labyrinth.specs.Refusals.{underKey}
+use Rattle.labyrinth.proofs.Refusals.{under-loaded}
+use Rattle.sets.specs.declared.Store.{Store}
+use Rattle.sets.specs.Sets.{loaded, partsIn}
+use Rattle.sets.proofs.Sets.{loaded-zero, parts-zero}
 use Rattle.modes.specs.Cmac.{mac, tag, valid}
+use Rattle.modes.specs.Refusals.{cmacRefusal}
+use Rattle.modes.proofs.Refusals.{cmac-one}
 use Rattle.modes.proofs.Maps.{Keeps}
 use Rattle.modes.proofs.Cmac.{length-mac, made-valid}
 use Rattle.cmac.specs.declared.Verified.{Verified}
@@ -48,6 +57,14 @@ verified-under e f m given {n} p h = go n h ∙ ap (verification f m given) p
     go (suc n) h = refl
 
 -- ---- verifying what was made
+
+-- set 0 named: the former answer is the one by the store
+pub verified-published : (store : Store) (i n : ℕ) (ws m given : List ℕ) → i ≡ 0
+    → verification (E article n ws) m given (cmacRefusal n (length given)) ≡ verification (E (partsIn store i) n ws) m given (underKey n (loaded store i) (cmacRefusal n (length given)))
+verified-published store i n ws m given z =
+    verified-under (E article n ws) (E (partsIn store i) n ws) m given
+    (sym (under-loaded n (loaded store i) (cmacRefusal n (length given)) (cmac-one n (length given)) (loaded-zero store i z)))
+    (λ y. ap (λ (p : Parts). E p n ws) (sym (parts-zero store i z)))
 
 pub verification-number : (e : List ℕ → List ℕ) (m given : List ℕ) (n : ℕ) → verification e m given n .number ≡ n
 unfolding verification

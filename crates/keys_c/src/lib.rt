@@ -4,13 +4,16 @@ use cmac::Verified;
 ghost use mathlib.Core.Path.{_≡_};
 ghost use lib.ListN.{length};
 ghost use Rattle.forms.specs.Refusals.{outcome};
-ghost use Rattle.labyrinth.specs.Refusals.{blockRefusal};
+ghost use Rattle.labyrinth.specs.Refusals.{blockRefusal, underKey};
 ghost use Rattle.modes.specs.Cbc.{cbcSeal, cbcOpen};
 ghost use Rattle.modes.specs.Ctr.{ctr};
 ghost use Rattle.modes.specs.Cmac.{valid};
 ghost use Rattle.modes.specs.Cmac.{tag as madeTag};
 ghost use Rattle.modes.specs.Refusals.{cbcRefusal, ctrRefusal, cmacRefusal};
+ghost use Rattle.cmac.specs.Verification.{verification};
+ghost use Rattle.sets.specs.Sets.{loaded};
 ghost use Rattle.one_shot.specs.OneShot.{yesByte};
+ghost use Rattle.records.specs.Records.{keyIn, storeIn};
 ghost use Rattle.records.specs.Lent.{lentNumber, lentE, lentU, lentSize};
 
 // Enciphers a block.
@@ -181,7 +184,7 @@ pub extern "C" fn labyrinth_key_cmac(
 
 // A given tag verified, by the set that the key names.
 fn verified(store: &[u8], working: &[u8], message: &[u8], tag: &[u8]) -> Verified
-    ensures { λ r. ⌜ Verifies (now (store .entry)) (now (working .entry)) (now (message .entry)) (now (tag .entry)) r ⌝ }
+    ensures { λ r. ⌜ r ≡ verification (lentE (now (store .entry)) (now (working .entry))) (now (message .entry)) (now (tag .entry)) (underKey (keyIn (now (working .entry)) .n) (loaded (storeIn (now (store .entry))) (keyIn (now (working .entry)) .set)) (cmacRefusal (keyIn (now (working .entry)) .n) (length (now (tag .entry))))) ⌝ }
 {
     let k = records::key_of(working);
     if k.set == 0 {

@@ -80,17 +80,21 @@ module _ (n l : ℕ) (key : List ℕ) (operation : ℕ → ℕ) (result : ℕ �
       p .1 ∙ passed-key n l key e (λ m ws. outcome number (result m ws) before) z,
     )
 
--- a tag verified
+-- a tag verified: the byte that says yes, beside the number
+told-yes : (e : List ℕ → List ℕ) (message given : List ℕ) (r : ℕ) → yesByte 0 (verification e message given r .yes) ≡ yesByte (verification e message given r .number) (valid e message given)
+unfolding verification
+told-yes e message given zero = refl
+told-yes e message given (suc r) = refl
+
+pub told-byte : (e : List ℕ → List ℕ) (message given : List ℕ) (r : ℕ) {v : Verified} {told : ℕ} → v ≡ verification e message given r → told ≡ yesByte 0 (v .yes)
+    → told ≡ yesByte (v .number) (valid e message given)
+told-byte e message given r w q =
+    q ∙ ap (λ (y : Verified). yesByte 0 (y .yes)) w ∙ told-yes e message given r ∙ ap (λ (y : Verified). yesByte (y .number) (valid e message given)) (sym w)
+
 module _ (n l : ℕ) (key message given : List ℕ) where
   -- what is promised
   abbrev pub Told : ℕ → ℕ → Type 0
   Told number told = (number ≡ numberOf n l key (cmacRefusal n (length given))) × (told ≡ yesByte number (valid (E article n (keyOf n l key .words)) message given))
-
-  -- a yes beside its number
-  told-yes : (e : List ℕ → List ℕ) (r : ℕ) → yesByte 0 (verification e message given r .yes) ≡ yesByte (verification e message given r .number) (valid e message given)
-  unfolding verification
-  told-yes e zero = refl
-  told-yes e (suc r) = refl
 
   module _ {x : Expanded} (e : x ≡ expansion (article .SM) 0 n l key (expandRefusal n l (length key))) where
     pub verify-refused : (x .number ≡ 0 → ⊥) → Told (x .number) 0
@@ -106,5 +110,5 @@ module _ (n l : ℕ) (key message given : List ℕ) where
         let w : v ≡ verification (E article n (keyOf n l key .words)) message given (cmacRefusal n (length given)) =
         p ∙ passed-key n l key e (λ m ws. verification (E article m ws) message given (cmacRefusal m (length given))) z in (
           ap (λ (y : Verified). y .number) w ∙ verification-number _ message given _ ∙ passed-number n l key e z (cmacRefusal n (length given)),
-          q ∙ ap (λ (y : Verified). yesByte 0 (y .yes)) w ∙ told-yes _ _ ∙ ap (λ (y : Verified). yesByte (y .number) (valid (E article n (keyOf n l key .words)) message given)) (sym w),
+          told-byte _ message given _ w q,
         )

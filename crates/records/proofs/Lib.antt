@@ -1,3 +1,4 @@
 pub mod Parts
 pub mod Records
 pub mod Numbers
+pub mod Lent

@@ -1,35 +1,33 @@
--- The numbers of lent records in plain terms; and what a function that takes a store and a working key comes to, whatever its operation.
+-- The numbers of lent records, in plain terms and as the code makes the checks.
 -- Assumes nothing.
-use mathlib.Core.Path.{_≡_, refl, sym, ap, ap₂, _∙_}
+use mathlib.Core.Path.{_≡_, sym, _∙_}
 use mathlib.Core.Bool.{Bool, true, false, not, _&&_}
 use mathlib.Core.List.{List}
 use Prim.Native.Nat.{ℕ}
-use borrow.Author.Tests.{eq-eqb, ne-eqb, not-true, not-false}
+use borrow.Author.Tests.{eq-eqb, ne-eqb, eqb-true, not-true, not-false}
 use lib.Dec.{eqb}
 use lib.ListN.{length}
-use Rattle.forms.specs.Refusals.{Unless, outcome}
-use Rattle.forms.proofs.Booleans.{eqb-iff, and-iff}
+use Rattle.forms.specs.Refusals.{Unless}
+use Rattle.forms.proofs.Booleans.{eqb-iff, and-iff, and-both}
 use Rattle.forms.proofs.Refusals.{unless-plain}
-use Rattle.labyrinth.specs.declared.WorkingKey.{WorkingKey}
-use Rattle.sets.specs.declared.Store.{Store}
-use Rattle.records.specs.Records.{keyIn, storeIn}
 use Rattle.records.specs.Numbers.{storeNumber, recordsNumber, rowNumber}
 
 -- ---- in plain terms: 4 unless each has its length, then the further checks
 
-pub store-plain : (store further : ℕ) {r : ℕ} → r ≡ storeNumber store further → Unless (store ≡ 1072) (r ≡ 4) (r ≡ further)
+pub store-plain : {more : Type 0} (store further : ℕ) {r : ℕ} → r ≡ storeNumber store further → (r ≡ further → more) → Unless (store ≡ 1072) (r ≡ 4) more
 unfolding storeNumber
-store-plain store further e = unless-plain (eqb store 1072) 4 further e (eqb-iff store 1072) (λ e. e)
+store-plain store further e f = unless-plain (eqb store 1072) 4 further e (eqb-iff store 1072) f
 
-pub records-plain : (store working further : ℕ) {r : ℕ} → r ≡ recordsNumber store working further → Unless ((store ≡ 1072) × (working ≡ 272)) (r ≡ 4) (r ≡ further)
+pub records-plain : {more : Type 0} (store working further : ℕ) {r : ℕ} → r ≡ recordsNumber store working further → (r ≡ further → more)
+    → Unless ((store ≡ 1072) × (working ≡ 272)) (r ≡ 4) more
 unfolding recordsNumber
-records-plain store working further e =
-    unless-plain (eqb store 1072 && eqb working 272) 4 further e (and-iff (eqb store 1072) (eqb working 272) (eqb-iff store 1072) (eqb-iff working 272)) (λ e. e)
+records-plain store working further e f =
+    unless-plain (eqb store 1072 && eqb working 272) 4 further e (and-iff (eqb store 1072) (eqb working 272) (eqb-iff store 1072) (eqb-iff working 272)) f
 
-pub row-plain : (store row further : ℕ) {r : ℕ} → r ≡ rowNumber store row further → Unless ((store ≡ 1072) × (row ≡ 8)) (r ≡ 4) (r ≡ further)
+pub row-plain : {more : Type 0} (store row further : ℕ) {r : ℕ} → r ≡ rowNumber store row further → (r ≡ further → more) → Unless ((store ≡ 1072) × (row ≡ 8)) (r ≡ 4) more
 unfolding rowNumber
-row-plain store row further e =
-    unless-plain (eqb store 1072 && eqb row 8) 4 further e (and-iff (eqb store 1072) (eqb row 8) (eqb-iff store 1072) (eqb-iff row 8)) (λ e. e)
+row-plain store row further e f =
+    unless-plain (eqb store 1072 && eqb row 8) 4 further e (and-iff (eqb store 1072) (eqb row 8) (eqb-iff store 1072) (eqb-iff row 8)) f
 
 -- ---- as the code makes the checks
 
@@ -63,19 +61,5 @@ module _ (store working : List ℕ) {t : Bool} (e : t ≡ (eqb (length store) 10
   unfolding recordsNumber
   records-passed further h = rw (sym e, not-false t h)
 
-  -- an operation that answers a number and fills a buffer
-  module _ (own : Store → WorkingKey → ℕ) (result : Store → WorkingKey → List ℕ) (before : List ℕ) where
-    -- what is promised
-    abbrev pub Done : ℕ → List ℕ → Type 0
-    Done r after =
-        (r ≡ recordsNumber (length store) (length working) (own (storeIn store) (keyIn working))) × (after ≡ outcome r (result (storeIn store) (keyIn working)) before)
-
-    pub lent-refused : not t ≡ true → Done 4 before
-    lent-refused h = (records-refused (own (storeIn store) (keyIn working)) h, refl)
-
-    pub lent-passed : not t ≡ false → {s : Store} {k : WorkingKey} → s ≡ storeIn store → k ≡ keyIn working → {r : ℕ} {after : List ℕ}
-        → (r ≡ own s k) × (after ≡ outcome r (result s k) before) → Done r after
-    lent-passed h p q {r} d = (
-      d .0 ∙ ap₂ own p q ∙ records-passed (own (storeIn store) (keyIn working)) h,
-      d .1 ∙ ap₂ (λ (s : Store) (k : WorkingKey). outcome r (result s k) before) p q,
-    )
+  pub records-long : not t ≡ false → (length store ≡ 1072) × (length working ≡ 272)
+  records-long h = let b = and-both (eqb (length store) 1072) (eqb (length working) 272) (sym e ∙ not-false t h) in (eqb-true (length store) 1072 (b .0), eqb-true (length working) 272 (b .1))

@@ -118,9 +118,9 @@ fn substitution_at(b: &[u8], at: usize) -> [u8; 256]
 pub fn row_at(b: &[u8], at: usize) -> [u8; 8]
     ensures { λ r. ⌜ r ≡ wordsFrom 8 at (now (b .entry)) ⌝ }
 {
-    let mut r = [0u8; 8];
-    lay(&mut r, b, at);
-    r
+    let mut g = [0u8; 8];
+    lay(&mut g, b, at);
+    g
 }
 
 // A set that stands at a place.

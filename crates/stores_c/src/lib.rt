@@ -15,7 +15,8 @@ pub extern "C" fn labyrinth_store_fresh(store: &mut [u8]) -> u8
     ensures number { λ r. ⌜ r ≡ storeNumber (length (now (store .entry))) 0 ⌝ }
     ensures store { λ r. ⌜ now (store .exit) ≡ outcome r (storeBytes freshStore) (now (store .entry)) ⌝ }
 {
-    if store.len() != 1072 {
+    let size = store.len();
+    if size != 1072 {
         return 4;
     }
     records::put_store(sets::fresh(), store);
@@ -64,11 +65,11 @@ pub extern "C" fn labyrinth_store_take(store: &mut [u8], publisher: usize, set: 
     if store.len() != 1072 {
         return 4;
     }
-    let changed = sets::take(records::store_of(store), publisher, set);
-    if changed.number != 0 {
-        return changed.number;
+    let taken = sets::take(records::store_of(store), publisher, set);
+    if taken.number != 0 {
+        return taken.number;
     }
-    let after = changed.store;
+    let after = taken.store;
     records::put_store(after, store);
     0
 }
@@ -84,7 +85,7 @@ pub extern "C" fn labyrinth_expand(
     working: &mut [u8],
 ) -> u8
     ensures number { λ r. ⌜ r ≡ recordsNumber (length (now (store .entry))) (length (now (working .entry))) (underLength n l (loaded (storeIn (now (store .entry))) set) (expandRefusal n l (length (now (key .entry))))) ⌝ }
-    ensures key { λ r. ⌜ now (working .exit) ≡ outcome r (keyBytes (expansion (partsIn (storeIn (now (store .entry))) set .SM) set n l (now (key .entry)) r .key)) (now (working .entry)) ⌝ }
+    ensures key { λ r. ⌜ now (working .exit) ≡ outcome r (keyBytes (expansion (partsIn (storeIn (now (store .entry))) set .SM) set n l (now (key .entry)) 0 .key)) (now (working .entry)) ⌝ }
 {
     if !records::fit(store.len(), working.len()) {
         return 4;

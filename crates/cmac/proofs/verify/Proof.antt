@@ -1,22 +1,18 @@
 -- Set 0 goes its own way; else the checks, and what is prepared of the set gives E by its tables.
 -- Assumes nothing.
-use mathlib.Core.Path.{_≡_, refl, sym, ap, _∙_}
+use mathlib.Core.Path.{_≡_, refl, ap, _∙_}
 use mathlib.Core.Bool.{Bool, false}
-use mathlib.Core.List.{List}
-use Prim.Native.Nat.{ℕ}
 use lib.ListN.{length}
 use borrow.Author.Needs.{needs}
-use Rattle.labyrinth.specs.Cipher.{Parts, article}
 use Rattle.labyrinth.specs.Keys.{E}
 use Rattle.labyrinth.specs.Refusals.{underKey}
 use Rattle.labyrinth.specs.Lent.{lent}
-use Rattle.labyrinth.proofs.Refusals.{under-refused, under-loaded}
+use Rattle.labyrinth.proofs.Refusals.{under-refused}
 use Rattle.sets.specs.Sets.{loaded, partsIn}
-use Rattle.sets.proofs.Sets.{loaded-zero, parts-zero}
 use Rattle.sets.proofs.Lent.{Made, set-made, set-number, set-by-one}
 use Rattle.modes.specs.Refusals.{cmacRefusal}
-use Rattle.modes.proofs.Refusals.{cmac-taken, cmac-one}
-use Rattle.cmac.proofs.Tags.{refused-no, verified-under}
+use Rattle.modes.proofs.Refusals.{cmac-taken}
+use Rattle.cmac.proofs.Tags.{refused-no, verified-under, verified-published}
 use Rattle.cmac.proofs.verify.Statement.{statement}
 use Rattle.cmac.proofs.verify.Tie as tie
 
@@ -26,11 +22,7 @@ verify-published-requires c κs = search needs
 returns : tie.Need-returns
 returns c =
     let a = c .before .before .before .before .before .args in
-    let z = c .before .if1 .taken in
-    c .verify-published .ensures
-    ∙ verified-under (E article (a .k .n) (a .k .words)) (E (partsIn (a .store) (a .k .set)) (a .k .n) (a .k .words)) (a .message .now) (a .tag .now)
-    (sym (under-loaded (a .k .n) (loaded (a .store) (a .k .set)) (cmacRefusal (a .k .n) (length (a .tag .now))) (cmac-one (a .k .n) (length (a .tag .now))) (loaded-zero (a .store) (a .k .set) z)))
-    (λ y. ap (λ (p : Parts). E p (a .k .n) (a .k .words)) (sym (parts-zero (a .store) (a .k .set) z)))
+    c .verify-published .ensures ∙ verified-published (a .store) (a .k .set) (a .k .n) (a .k .words) (a .message .now) (a .tag .now) (c .before .if1 .taken)
 
 is-loaded-requires : tie.Need-is-loaded-requires
 is-loaded-requires c κs = search needs
@@ -42,8 +34,11 @@ under-key-requires c κs = search needs
 checked : (c : tie.After-under-key) → let a = c .before .before .before .before .before .before .args in c .under-key .result ≡ underKey (a .k .n) (loaded (a .store) (a .k .set)) 0
 checked c = c .under-key .ensures ∙ ap (λ (b : Bool). underKey (c .before .before .before .before .before .before .args .k .n) b 0) (c .before .is-loaded .ensures)
 
+refused-requires : tie.Need-refused-requires
+refused-requires c κs = search needs
+
 returns-2 : tie.Need-returns-2
-returns-2 c = refused-no _ _ _ _ (under-refused _ _ _ (checked (c .before)) (c .if2 .taken)) (c .if2 .taken)
+returns-2 c = c .refused .ensures ∙ refused-no _ _ _ _ (under-refused _ _ _ (checked (c .before .before)) (c .before .if2 .taken)) (c .before .if2 .taken)
 
 set-in-requires : tie.Need-set-in-requires
 set-in-requires c κs = search needs
@@ -84,6 +79,7 @@ verify-spec =
     returns
     is-loaded-requires
     under-key-requires
+    refused-requires
     returns-2
     set-in-requires
     table-of-requires

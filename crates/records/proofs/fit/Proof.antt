@@ -1,6 +1,5 @@
 -- The store's length, then the working key's.
 -- Assumes nothing.
-use mathlib.Core.Path.{sym}
 use borrow.Author.Tests.{eq-eqb, ne-eqb}
 use Rattle.records.proofs.fit.Statement.{statement}
 use Rattle.records.proofs.fit.Tie as tie
