@@ -23,7 +23,7 @@ use Rattle.modes.proofs.Again.{cbc-again, ctr-again}
 use Rattle.sets.specs.declared.Set.{Set}
 use Rattle.sets.specs.declared.Store.{Store}
 use Rattle.sets.specs.Sets.{setIn, substitutionIn, rowIn, partsIn, loaded, loadRefusal, load, take}
-use Rattle.sets.proofs.Sets.{loaded-sound, loaded-alike}
+use Rattle.sets.proofs.Sets.{setIn-zero, loaded-zero, loaded-sound, loaded-alike}
 use Rattle.publishers.specs.Calls.{Call, loads, takes, uses, Answer, number, key, buffer, verdict, left, named, used, answer, after, afterAll, renewed}
 use Rattle.publishers.specs.Pages.{SameSet, KeptUnlessRenewed, SetsUndo, BlocksComeBackIn, CbcOpensAgainIn, CtrOpensAgainIn, ExpandsIn}
 use Rattle.publishers.proofs.Stores.{load-is, refused-load, load-leaves, take-sets, same-sets}
@@ -63,6 +63,13 @@ pub sets-undo : SetsUndo
 sets-undo s i l n ws b w e h = (U-E (partsIn s i) (loaded-sound s i l) n ws b w e h, E-U (partsIn s i) (loaded-sound s i l) n ws b w e h)
 
 -- ---- over two stores
+
+-- set 0 is in any two the same
+pub zero-same : (s t : Store) (i : ℕ) → i ≡ 0 → SameSet i s t
+unfolding substitutionIn rowIn
+zero-same s t i z =
+    let e = setIn-zero s i z ∙ sym (setIn-zero t i z) in
+    record { here = loaded-zero s i z; there = loaded-zero t i z; substitution = ap (λ (v : Set). v .substitution) e; row = ap (λ (v : Set). v .row) e }
 
 pub same-parts : {i : ℕ} {s t : Store} → SameSet i s t → partsIn s i ≡ partsIn t i
 unfolding partsIn
