@@ -11,8 +11,8 @@ all their cases first:
     judge_row     rows of tests/judge.py, by determinants
     tape_program  the tapes of tests/tapes.py, by the papers and vectors
     rows_c        the C interface's functions on rows, by the archivists' product
-    lines         tests/compare_c.py's, with one seed, through the C interface: long runs and damaged calls
     stores        tests/stores.py's, through the C interface: keys that name a set, stores and histories
+    lines         tests/compare_c.py's, with one seed, through the C interface: long runs and damaged calls
     inner         tests/wrong/inner.txt, functions called by themselves, by what their definitions say, worked out here
     records       tests/c_interface, stores and working keys through the C interface: numbers by the papers, bytes by round trips and by the other functions
 
@@ -219,14 +219,7 @@ def through_c(crate, sources, place):
     return archive(crate, root, [name for name in reached((crate,)) if name != crate], sources, os.path.join(place, f"{crate}.a"))
 
 
-LINES = "labyrinth_c", "rows_c", "stores_c", "keys_c"  # what tests/labyrinth_lines.c calls
-
-
-def lines_program(sources, place):
-    out = os.path.join(place, "lines")
-    made = [through_c(crate, sources, place) for crate in LINES]
-    command(["gcc", "-std=c11", "-O1", "-I", os.path.join(ROOT, "include"), "-o", out, os.path.join(HERE, "labyrinth_lines.c"), *made], "lines")
-    return out
+LIBRARIES = "labyrinth_c", "rows_c", "stores_c", "keys_c"  # what tests/labyrinth_lines.c and tests/c_interface call
 
 
 KEPT = tempfile.TemporaryDirectory()
@@ -243,10 +236,22 @@ def unedited(crate):
         return kept(crate)
 
 
+def libraries(sources, place):
+    """All of them; those that an edit doesn't reach as they stand."""
+    return [through_c(crate, sources, place) if set(sources) & set(reached((crate,))) else unedited(crate) for crate in LIBRARIES]
+
+
+def lines_program(sources, place):
+    out = os.path.join(place, "lines")
+    words = ["gcc", "-std=c11", "-O1", "-I", os.path.join(ROOT, "include"), "-o", out, os.path.join(HERE, "labyrinth_lines.c")]
+    command([*words, *libraries(sources, place)], "lines")
+    return out
+
+
 def records_program(sources, place):
     out = os.path.join(place, "records")
-    made = [through_c(crate, sources, place) if set(sources) & set(reached((crate,))) else unedited(crate) for crate in PROGRAMS["records"][0]]
-    command(["gcc", "-std=gnu11", "-O1", "-I", os.path.join(ROOT, "include"), "-o", out, *sorted(glob.glob(os.path.join(HERE, "c_interface", "*.c"))), *made], "records")
+    words = ["gcc", "-std=gnu11", "-O1", "-I", os.path.join(ROOT, "include"), "-o", out, *sorted(glob.glob(os.path.join(HERE, "c_interface", "*.c")))]
+    command([*words, *libraries(sources, place)], "records")
     return out
 
 
@@ -619,10 +624,10 @@ PROGRAMS = {
         functools.partial(shown_by_calls, "rows_c"),
         lambda: None,
     ),
-    "lines": (LINES, lines_program, shown_by_lines, asked),
-    "stores": (LINES, lines_program, shown_by_stores, stored),
+    "stores": (LIBRARIES, lines_program, shown_by_stores, stored),
+    "lines": (LIBRARIES, lines_program, shown_by_lines, asked),
     "inner": (tuple(INNER), inner, functools.partial(shown_by_calls, "inner"), lambda: None),
-    "records": (("labyrinth_c", "rows_c", "stores_c", "keys_c"), records_program, shown_by_records, lambda: None),
+    "records": (LIBRARIES, records_program, shown_by_records, lambda: None),
 }
 
 

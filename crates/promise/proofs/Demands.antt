@@ -148,13 +148,13 @@ unused-words-zero SM i n l key r {answer} taken h = rw h (by-number r taken)
 module _ {R : Type 0} (own : ℕ → R → ℕ) (result : Parts → ℕ → List ℕ → R → List ℕ) (held : R → List ℕ) where
   abbrev pub UnderUsed : Type 0
   UnderUsed =
-      (k j : WorkingKey) {g g′ : Store × ℕ × R} {y z : ℕ} {e f : List ℕ} → SameUsed k j → g ≡ g′
+      (k j : WorkingKey) (g g′ : Store × ℕ × R) (y z : ℕ) (e f : List ℕ) → SameUsed k j → g ≡ g′
       → (y ≡ underKey (k .n) (loaded (g .0) (g .1)) (own (k .n) (g .2))) × (e ≡ outcome y (result (partsIn (g .0) (g .1)) (k .n) (k .words) (g .2)) (held (g .2)))
       → (z ≡ underKey (j .n) (loaded (g′ .0) (g′ .1)) (own (j .n) (g′ .2))) × (f ≡ outcome z (result (partsIn (g′ .0) (g′ .1)) (j .n) (j .words) (g′ .2)) (held (g′ .2)))
       → (y ≡ z) × (e ≡ f)
 
   pub under-used : ((p : Parts) (n : ℕ) (ws vs : List ℕ) → Used n ws vs → (r : R) → result p n ws r ≡ result p n vs r) → UnderUsed
-  under-used used k j {g} {g′} {y} {z} s p u v =
+  under-used used k j g g′ y z e f s p u v =
       let n : ℕ → ℕ = λ i. underKey i (loaded (g .0) (g .1)) (own i (g .2)) in
       let r : y ≡ z = u .0 ∙ ap n (s .0) ∙ ap (λ (x : Store × ℕ × R). underKey (j .n) (loaded (x .0) (x .1)) (own (j .n) (x .2))) p ∙ sym (v .0) in (
         r,

@@ -101,7 +101,7 @@ module _ (κs : Lfts 2) where
   encipher-by-table-as a z e h = enciphers-as (a .0) (a .1 .0) (a .1 .1 .0 .now) (a .1 .1 .1 .0 .now) h
 
   pub encipher-by-table-used : OfUsedWords {G = Store × ℕ × (List ℕ × List ℕ)} (encipher-by-table.Reads.Learnt κs) (λ a. a .1 .0) (λ a. (a .0, a .1 .0 .set, (a .1 .1 .0 .now, a .1 .1 .1 .0 .now))) (λ e. e .1 .1 .1 .0 .now)
-  encipher-by-table-used a b y z e f h g s p = enciphers-used (a .1 .0) (b .1 .0) s p h g
+  encipher-by-table-used a b y z e f h g s p = enciphers-used (a .1 .0) (b .1 .0) _ _ _ _ _ _ s p h g
 
   pub deciphers-by-table-in : (a : _) (z : _) (e : _) → decipher-by-table.Reads.Learnt κs a z e → DeciphersIn (a .0) (a .1 .0) (a .1 .1 .0 .now) z (a .1 .1 .1 .0 .now) (e .1 .1 .1 .0 .now)
   deciphers-by-table-in a z e h = h
@@ -119,7 +119,7 @@ module _ (κs : Lfts 2) where
   decipher-by-table-as a z e h = deciphers-as (a .0) (a .1 .0) (a .1 .1 .0 .now) (a .1 .1 .1 .0 .now) h
 
   pub decipher-by-table-used : OfUsedWords {G = Store × ℕ × (List ℕ × List ℕ)} (decipher-by-table.Reads.Learnt κs) (λ a. a .1 .0) (λ a. (a .0, a .1 .0 .set, (a .1 .1 .0 .now, a .1 .1 .1 .0 .now))) (λ e. e .1 .1 .1 .0 .now)
-  decipher-by-table-used a b y z e f h g s p = deciphers-used (a .1 .0) (b .1 .0) s p h g
+  decipher-by-table-used a b y z e f h g s p = deciphers-used (a .1 .0) (b .1 .0) _ _ _ _ _ _ s p h g
 
   pub enciphers-by-matrix-in : (a : _) (z : _) (e : _) → encipher-by-matrix.Reads.Learnt κs a z e → EnciphersIn (a .0) (a .1 .0) (a .1 .1 .0 .now) z (a .1 .1 .1 .0 .now) (e .1 .1 .1 .0 .now)
   enciphers-by-matrix-in a z e h = h
@@ -137,7 +137,7 @@ module _ (κs : Lfts 2) where
   encipher-by-matrix-as a z e h = enciphers-as (a .0) (a .1 .0) (a .1 .1 .0 .now) (a .1 .1 .1 .0 .now) h
 
   pub encipher-by-matrix-used : OfUsedWords {G = Store × ℕ × (List ℕ × List ℕ)} (encipher-by-matrix.Reads.Learnt κs) (λ a. a .1 .0) (λ a. (a .0, a .1 .0 .set, (a .1 .1 .0 .now, a .1 .1 .1 .0 .now))) (λ e. e .1 .1 .1 .0 .now)
-  encipher-by-matrix-used a b y z e f h g s p = enciphers-used (a .1 .0) (b .1 .0) s p h g
+  encipher-by-matrix-used a b y z e f h g s p = enciphers-used (a .1 .0) (b .1 .0) _ _ _ _ _ _ s p h g
 
   pub deciphers-by-matrix-in : (a : _) (z : _) (e : _) → decipher-by-matrix.Reads.Learnt κs a z e → DeciphersIn (a .0) (a .1 .0) (a .1 .1 .0 .now) z (a .1 .1 .1 .0 .now) (e .1 .1 .1 .0 .now)
   deciphers-by-matrix-in a z e h = h
@@ -155,7 +155,7 @@ module _ (κs : Lfts 2) where
   decipher-by-matrix-as a z e h = deciphers-as (a .0) (a .1 .0) (a .1 .1 .0 .now) (a .1 .1 .1 .0 .now) h
 
   pub decipher-by-matrix-used : OfUsedWords {G = Store × ℕ × (List ℕ × List ℕ)} (decipher-by-matrix.Reads.Learnt κs) (λ a. a .1 .0) (λ a. (a .0, a .1 .0 .set, (a .1 .1 .0 .now, a .1 .1 .1 .0 .now))) (λ e. e .1 .1 .1 .0 .now)
-  decipher-by-matrix-used a b y z e f h g s p = deciphers-used (a .1 .0) (b .1 .0) s p h g
+  decipher-by-matrix-used a b y z e f h g s p = deciphers-used (a .1 .0) (b .1 .0) _ _ _ _ _ _ s p h g
 
 -- ---- substitution
 
@@ -191,7 +191,7 @@ module _ (κs : Lfts 3) where
   cbc-seal-by-blocks a e h o = sealed-by-blocks (a .1 .0) (a .1 .1 .0 .now) (a .1 .1 .1 .0 .now) (a .1 .1 .1 .1 .0 .now) (seals-cbc a 0 e h o)
 
   pub cbc-seal-used : OfUsedWords {G = Store × ℕ × (List ℕ × List ℕ × List ℕ)} (seal.Reads.Learnt κs) (λ a. a .1 .0) (λ a. (a .0, a .1 .0 .set, (a .1 .1 .0 .now, a .1 .1 .1 .0 .now, a .1 .1 .1 .1 .0 .now))) (λ e. e .1 .1 .1 .1 .0 .now)
-  cbc-seal-used a b y z e f h g s p = seals-used (a .1 .0) (b .1 .0) s p h g
+  cbc-seal-used a b y z e f h g s p = seals-used (a .1 .0) (b .1 .0) _ _ _ _ _ _ s p h g
 
   pub opens-cbc-in : (a : _) (z : _) (e : _) → cbc-open.Reads.Learnt κs a z e → OpensCbcIn (a .0) (a .1 .0) (a .1 .1 .0 .now) (a .1 .1 .1 .0 .now) z (a .1 .1 .1 .1 .0 .now) (e .1 .1 .1 .1 .0 .now)
   opens-cbc-in a z e h = h
@@ -215,7 +215,7 @@ module _ (κs : Lfts 3) where
   cbc-open-by-blocks a e h o = opened-by-blocks (a .1 .0) (a .1 .1 .0 .now) (a .1 .1 .1 .0 .now) (a .1 .1 .1 .1 .0 .now) (opens-cbc a 0 e h o)
 
   pub cbc-open-used : OfUsedWords {G = Store × ℕ × (List ℕ × List ℕ × List ℕ)} (cbc-open.Reads.Learnt κs) (λ a. a .1 .0) (λ a. (a .0, a .1 .0 .set, (a .1 .1 .0 .now, a .1 .1 .1 .0 .now, a .1 .1 .1 .1 .0 .now))) (λ e. e .1 .1 .1 .1 .0 .now)
-  cbc-open-used a b y z e f h g s p = opens-used (a .1 .0) (b .1 .0) s p h g
+  cbc-open-used a b y z e f h g s p = opens-used (a .1 .0) (b .1 .0) _ _ _ _ _ _ s p h g
 
   pub runs-ctr-in : (a : _) (z : _) (e : _) → run.Reads.Learnt κs a z e → RunsCtrIn (a .0) (a .1 .0) (a .1 .1 .0 .now) (a .1 .1 .1 .0) (a .1 .1 .1 .1 .0 .now) z (a .1 .1 .1 .1 .1 .0 .now) (e .1 .1 .1 .1 .1 .0 .now)
   runs-ctr-in a z e h = h
@@ -239,7 +239,7 @@ module _ (κs : Lfts 3) where
   ctr-run-by-blocks a e h o = counted-by-blocks (a .1 .0) (a .1 .1 .0 .now) (a .1 .1 .1 .0) (a .1 .1 .1 .1 .0 .now) (a .1 .1 .1 .1 .1 .0 .now) (runs-ctr a 0 e h o)
 
   pub ctr-run-used : OfUsedWords {G = Store × ℕ × (List ℕ × ℕ × List ℕ × List ℕ)} (run.Reads.Learnt κs) (λ a. a .1 .0) (λ a. (a .0, a .1 .0 .set, (a .1 .1 .0 .now, a .1 .1 .1 .0, a .1 .1 .1 .1 .0 .now, a .1 .1 .1 .1 .1 .0 .now))) (λ e. e .1 .1 .1 .1 .1 .0 .now)
-  ctr-run-used a b y z e f h g s p = runs-used (a .1 .0) (b .1 .0) s p h g
+  ctr-run-used a b y z e f h g s p = runs-used (a .1 .0) (b .1 .0) _ _ _ _ _ _ s p h g
 
   -- of demand 3: a sealing call, and an opening call on what it left, both taken. The second has the first's key, start block and offset; its store is any
   pub cbc-opened : (a : _) (e : _) → seal.Reads.Learnt κs a 0 e → (κs′ : Lfts 3) (b : _) (f : _) → cbc-open.Reads.Learnt κs′ b 0 f → a .1 .0 .set ≡ 0
@@ -374,11 +374,11 @@ module _ (κs : Lfts 2) where
   verify-as a z e h = verifies-as (a .0) (a .1 .0) (a .1 .1 .0 .now) (a .1 .1 .1 .0 .now) h
 
   pub make-used : OfUsedWords {G = Store × ℕ × (List ℕ × List ℕ)} (make.Reads.Learnt κs) (λ a. a .1 .0) (λ a. (a .0, a .1 .0 .set, (a .1 .1 .0 .now, a .1 .1 .1 .0 .now))) (λ e. e .1 .1 .1 .0 .now)
-  make-used a b y z e f h g s p = tags-used (a .1 .0) (b .1 .0) s p h g
+  make-used a b y z e f h g s p = tags-used (a .1 .0) (b .1 .0) _ _ _ _ _ _ s p h g
 
   -- nothing is lent to be written
   pub verify-used : OfUsedWords {G = Store × ℕ × (List ℕ × List ℕ)} {L = ℕ} (verify.Reads.Learnt κs) (λ a. a .1 .0) (λ a. (a .0, a .1 .0 .set, (a .1 .1 .0 .now, a .1 .1 .1 .0 .now))) (λ e. 0)
-  verify-used a b y z e f h g s p = (verifies-used (a .1 .0) (b .1 .0) s p h g, refl)
+  verify-used a b y z e f h g s p = (verifies-used (a .1 .0) (b .1 .0) _ _ _ _ s p h g, refl)
 
   pub gets-yes : (a : _) (z : _) (e : _) → tag-made-and-verified.Reads.Learnt κs a z e
       → let k = a .1 .0 in GetsYes (underKey (k .n) (loaded (a .0) (k .set)) (cmacRefusal (k .n) (length (a .1 .1 .1 .0 .now)))) z

@@ -119,17 +119,17 @@ answers-verifying k message given {answer} h =
 pub tags-used : UnderUsed {R = List ℕ × List ℕ} (λ n r. cmacRefusal n (length (r .1))) (λ p n ws r. tag (E p n ws) (length (r .1)) (r .0)) (λ r. r .1)
 tags-used = under-used _ _ _ (λ p n ws vs s r. tag-used p n ws vs s (length (r .1)) (r .0))
 
-pub verifies-used : (k j : WorkingKey) {g g′ : Store × ℕ × (List ℕ × List ℕ)} {y z : Verified} → SameUsed k j → g ≡ g′
-    → let said = λ (k : WorkingKey) (g : Store × ℕ × (List ℕ × List ℕ)).
-    verification (E (partsIn (g .0) (g .1)) (k .n) (k .words)) (g .2 .0) (g .2 .1) (underKey (k .n) (loaded (g .0) (g .1)) (cmacRefusal (k .n) (length (g .2 .1)))) in
-    y ≡ said k g → z ≡ said j g′ → y ≡ z
-verifies-used k j {g} s p a b =
-    let said : ℕ → (List ℕ → List ℕ) → Store × ℕ × (List ℕ × List ℕ) → Verified = λ n e g.
-    verification e (g .2 .0) (g .2 .1) (underKey n (loaded (g .0) (g .1)) (cmacRefusal n (length (g .2 .1)))) in
+-- what verifying says, by n and the block map
+abbrev pub said : Store × ℕ × (List ℕ × List ℕ) → ℕ → (List ℕ → List ℕ) → Verified
+said g n e = verification e (g .2 .0) (g .2 .1) (underKey n (loaded (g .0) (g .1)) (cmacRefusal n (length (g .2 .1))))
+
+pub verifies-used : (k j : WorkingKey) (g g′ : Store × ℕ × (List ℕ × List ℕ)) (y z : Verified) → SameUsed k j → g ≡ g′ → y ≡ said g (k .n) (E (partsIn (g .0) (g .1)) (k .n) (k .words))
+    → z ≡ said g′ (j .n) (E (partsIn (g′ .0) (g′ .1)) (j .n) (j .words)) → y ≡ z
+verifies-used k j g g′ y z s p a b =
     a
-    ∙ ap (λ (e : List ℕ → List ℕ). said (k .n) e g) (fun-ext (E-used (partsIn (g .0) (g .1)) (k .n) (k .words) (j .words) (s .1)))
-    ∙ ap (λ (n : ℕ). said n (E (partsIn (g .0) (g .1)) n (j .words)) g) (s .0)
-    ∙ ap (λ (x : Store × ℕ × (List ℕ × List ℕ)). said (j .n) (E (partsIn (x .0) (x .1)) (j .n) (j .words)) x) p ∙ sym b
+    ∙ ap (said g (k .n)) (fun-ext (E-used (partsIn (g .0) (g .1)) (k .n) (k .words) (j .words) (s .1)))
+    ∙ ap (λ (n : ℕ). said g n (E (partsIn (g .0) (g .1)) n (j .words))) (s .0)
+    ∙ ap (λ (x : Store × ℕ × (List ℕ × List ℕ)). said x (j .n) (E (partsIn (x .0) (x .1)) (j .n) (j .words))) p ∙ sym b
 
 -- ---- Job 2
 

@@ -39,29 +39,29 @@ use Rattle.promise.proofs.Requests.{yes-by}
 -- ---- "With 0 named, all former guarantees read as before"
 
 module _ (store : Store) (k : WorkingKey) (zero-named : k .set ≡ 0) where
-  at-zero : {own answered : ℕ} (result : Parts → List ℕ) {before after : List ℕ} → (legal (k .n) ≡ false → own ≡ 1) → UsesSet store k own result answered before after
+  at-zero : {own answered : ℕ} (result : Parts → List ℕ) (before : List ℕ) {after : List ℕ} → (legal (k .n) ≡ false → own ≡ 1) → UsesSet store k own result answered before after
       → (answered ≡ own) × (after ≡ outcome answered (result article) before)
-  at-zero result {before} one h = former store (k .set) (k .n) result before zero-named one (h .0) (h .1)
+  at-zero result before one h = former store (k .set) (k .n) result before zero-named one (h .0) (h .1)
 
   module _ (source : List ℕ) {answered : ℕ} (before : List ℕ) {after : List ℕ} where
     pub enciphers-at-zero : EnciphersIn store k source answered before after → Enciphers k source answered before after
-    enciphers-at-zero h = at-zero (λ p. E p (k .n) (k .words) source) (block-one (k .n) (length source) (length before)) h
+    enciphers-at-zero h = at-zero (λ p. E p (k .n) (k .words) source) before (block-one (k .n) (length source) (length before)) h
 
     pub deciphers-at-zero : DeciphersIn store k source answered before after → Deciphers k source answered before after
-    deciphers-at-zero h = at-zero (λ p. U p (k .n) (k .words) source) (block-one (k .n) (length source) (length before)) h
+    deciphers-at-zero h = at-zero (λ p. U p (k .n) (k .words) source) before (block-one (k .n) (length source) (length before)) h
 
     pub makes-at-zero : MakesTagIn store k source answered before after → MakesTag k source answered before after
-    makes-at-zero h = at-zero (λ p. tag (E p (k .n) (k .words)) (length before) source) (cmac-one (k .n) (length before)) h
+    makes-at-zero h = at-zero (λ p. tag (E p (k .n) (k .words)) (length before) source) before (cmac-one (k .n) (length before)) h
 
     module _ (start : List ℕ) where
       pub seals-at-zero : SealsCbcIn store k start source answered before after → SealsCbc k start source answered before after
-      seals-at-zero h = at-zero (λ p. cbcSeal (E p (k .n) (k .words)) (16 * k .n) start source) (cbc-one (k .n) (length start) (length source) (length before)) h
+      seals-at-zero h = at-zero (λ p. cbcSeal (E p (k .n) (k .words)) (16 * k .n) start source) before (cbc-one (k .n) (length start) (length source) (length before)) h
 
       pub opens-at-zero : OpensCbcIn store k start source answered before after → OpensCbc k start source answered before after
-      opens-at-zero h = at-zero (λ p. cbcOpen (U p (k .n) (k .words)) (16 * k .n) start source) (cbc-one (k .n) (length start) (length source) (length before)) h
+      opens-at-zero h = at-zero (λ p. cbcOpen (U p (k .n) (k .words)) (16 * k .n) start source) before (cbc-one (k .n) (length start) (length source) (length before)) h
 
       pub runs-at-zero : (q : ℕ) → RunsCtrIn store k start q source answered before after → RunsCtr k start q source answered before after
-      runs-at-zero q h = at-zero (λ p. ctr (E p (k .n) (k .words)) (16 * k .n) start q source) (ctr-one (k .n) (length start) (length source) (length before)) h
+      runs-at-zero q h = at-zero (λ p. ctr (E p (k .n) (k .words)) (16 * k .n) start q source) before (ctr-one (k .n) (length start) (length source) (length before)) h
 
   pub verifies-at-zero : (message given : List ℕ) {answered : Verified} → VerifiesTagIn store k message given answered → VerifiesTag k message given answered
   verifies-at-zero message given h =
@@ -137,7 +137,7 @@ module _ (store : Store) (n l i : ℕ) (secret : List ℕ) {answered : Expanded}
   unused-words-zero-for = unused-words-zero (partsIn store i .SM) i n l secret for-number key-taken-for h
 
   pub answers-key-for : AnswersKeyFor store n l i secret answered
-  unfolding for-number padded
+  unfolding for-number padded expansion
   answers-key-for =
       let e : answered .number ≡ for-number = ap (λ (x : Expanded). x .number) h ∙ expansion-number (partsIn store i .SM) i n l secret for-number in (
         under-length-number n l (loaded store i) _ e (loaded-iff store i) (expand-number n l (length secret)),
@@ -145,11 +145,11 @@ module _ (store : Store) (n l i : ℕ) (secret : List ℕ) {answered : Expanded}
         λ z. subst (λ (x : Expanded). (x .key .n ≡ n) × (x .key .set ≡ i)) (sym h) (names for-number (sym e ∙ z)),
       )
     where
-      names : (r : ℕ) → r ≡ 0 → (expansion (partsIn store i .SM) i n l secret r .key .n ≡ n) × (expansion (partsIn store i .SM) i n l secret r .key .set ≡ i)
-      names r z = rw z (first n l)
+      named-zero : (n l : ℕ) → (expansion (partsIn store i .SM) i n l secret 0 .key .n ≡ n) × (expansion (partsIn store i .SM) i n l secret 0 .key .set ≡ i)
+      named-zero n l = (refl, refl)
 
-      first : (n l : ℕ) → (expansion (partsIn store i .SM) i n l secret 0 .key .n ≡ n) × (expansion (partsIn store i .SM) i n l secret 0 .key .set ≡ i)
-      first n l = (refl, refl)
+      names : (r : ℕ) → r ≡ 0 → (expansion (partsIn store i .SM) i n l secret r .key .n ≡ n) × (expansion (partsIn store i .SM) i n l secret r .key .set ≡ i)
+      names r z = rw z (named-zero n l)
 
 -- ---- runs by any set, block by block
 
