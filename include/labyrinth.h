@@ -5,7 +5,7 @@
  *
  * Returned is the number of documents 01 and 02: 0 if it was done, else the first of these that applies, and then dst, or the tag to be
  * made, holds what it held before, and so do a store and a working key:
- *   4  a lent store isn't 1072 bytes, or a lent working key isn't 272 (here the number is our choice)
+ *   4  a lent store isn't 1072 bytes, or a lent working key isn't 272, or a row to be loaded isn't 8 (here the number is our choice)
  *   1  n isn't 1, 2 or 4
  *   2  l isn't 2, 3 or 4
  *  15  the store has no such set, or it isn't loaded; there is no such publisher
@@ -48,8 +48,8 @@
 
 /* No call uses more bytes of the stack. Measured on a painted stack were 34816, of a tag under a working key of another set than 0, the return
  * address and what the caller pushes counted (x86_64 Linux, Debian 12, gcc 12.2, glibc 2.36, the archive as rattle-kit-5b makes it); the rest
- * is room for a memcpy that uses more. Where memcpy and memset are only bound when first called, the first call takes more, 3136 bytes when it was measured: link with
- * -z now, or call once where the stack is large. */
+ * is room for a memcpy that uses more. Where memcpy and memset are only bound when first called, the first call takes more, 3136 bytes when
+ * it was measured: link with -z now, or call once where the stack is large. */
 #define LABYRINTH_STACK 40960
 
 #ifdef __cplusplus
