@@ -1,8 +1,9 @@
 #!/usr/bin/env python3
-"""Holds docs/CONTRACTS.md to the tree. A must-fail edit is named there as `label` in the 'ruled out' column of a function of its own crate, or as
-`crate/label` anywhere. Every edit is named, every name is an edit, an operation on offer names two at least, and every public function of a
-library has a row. The crate of a row is what stands before `::`, or else the one that the heading names. A label ends in _in_the_definition
-exactly if its edit is of specs/, but for the crate `promise`, which has no code."""
+"""Holds the must-fail edits to the code, and docs/CONTRACTS.md to the tree. Each text that an edit replaces stands exactly once in its file, which is
+told here in a second and by rt ci when it comes to the edit. An edit is named in the page as `label` in the 'ruled out' column of a function of its
+own crate, or as `crate/label` anywhere. Every edit is named, every name is an edit, an operation on offer names two at least, and every public
+function of a library has a row. The crate of a row is what stands before `::`, or else the one that the heading names. A label ends in
+_in_the_definition exactly if its edit is of specs/, but for the crate `promise`, which has no code."""
 import glob
 import os
 import re
@@ -29,8 +30,31 @@ def wrong(what):
     print(f"edit_names: {what}")
 
 
+def unfit(crate, text):
+    """Why an edit cannot be applied, as rt reads it: the pairs one after the other, each to what those before it made."""
+    file, old, made, pairs = "", "", {}, 0
+    for line in text.split("\n"):
+        if line.startswith("file: "):
+            file = line[len("file: ") :]
+            path = os.path.join("crates", crate, file)
+            if not os.path.isfile(path):
+                return f"no file {file}"
+            made.setdefault(file, open(path).read())
+        elif line.startswith("old: "):
+            old = line[len("old: ") :]
+        elif line.startswith("new:"):
+            count = made[file].count(old) if file and old else 0
+            if count != 1:
+                return f"{count} times in {file}: {old}"
+            made[file] = made[file].replace(old, line[len("new:") :].removeprefix(" "))
+            old, pairs = "", pairs + 1
+    return "no old: and new: pair, or a part of one" if old or not pairs else None
+
+
 for crate, label in sorted(edits):
     text = open(f"crates/{crate}/must-fail/{label}.edit").read()
+    if fault := unfit(crate, text):
+        wrong(f"crates/{crate}/must-fail/{label}.edit: {fault}")
     if crate not in NO_CODE and ("\nfile: specs/" in "\n" + text) != label.endswith("_in_the_definition"):
         wrong(f"crates/{crate}/must-fail/{label}.edit: its name does not say whether it is of code or of a definition")
 

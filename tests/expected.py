@@ -347,15 +347,24 @@ def tape_cases():
         yield None, 65, b""
 
 
+def stepped(number, taken, answer, left, room):
+    """A step's line: number, bytes taken, bytes written, n, the set and the marks of the next state, and the answer buffer over bytes AA."""
+    buffer = (answer + b"\xaa" * (room - len(answer))).hex()
+    return f"{number} {taken} {len(answer)} {left.n} {left.set} {left.keyed} {left.ended} {buffer}"
+
+
 def step():
-    """Number, bytes taken, bytes written, n and the marks of the next state, and the answer buffer over bytes AA. A case is a head of 4 bytes
-    (0 for a state by hand; n; the marks; the room) and the rest."""
+    """A case is a head of 4 bytes (0 for a state by hand; n; the marks; the room) and the rest. A key by hand names set 9."""
     left = papers.FRESH
     for state, room, rest in tape_cases():
         n, keyed, ended = state or (0, 0, 0)
-        number, taken, answer, left = papers.step(papers.State(*state) if state else left, rest, room)
-        buffer = (answer + b"\xaa" * (room - len(answer))).hex()
-        yield bytes([0 if state else 1, n, keyed + 2 * ended, room]) + rest, f"{number} {taken} {len(answer)} {left.n} {left.keyed} {left.ended} {buffer}"
+        number, taken, answer, left = papers.step(papers.State(*state, set=9) if state else left, rest, room)
+        yield bytes([0 if state else 1, n, keyed + 2 * ended, room]) + rest, stepped(number, taken, answer, left, room)
+    # document 02, Job 7: the tape uses set 0, whichever its key names
+    for n in papers.NS:
+        text, cipher, left = SOURCE * 16 * n, by_hand(n), papers.State(n, 1, 0, set=9)
+        for byte, made in ((0x03, cipher.encrypt_block(text)), (0x04, cipher.decrypt_block(text))):
+            yield bytes([0, n, 1, papers.ROOM]) + papers.command(byte, text), stepped(0, papers.WIDTH[byte], b"\0" + made, left, papers.ROOM)
 
 
 # ---- the judge of rows
@@ -394,7 +403,7 @@ KINDS = [
     ("ctr", ctr, 766),
     ("cmac make", make, 308),
     ("cmac verify", verify, 308),
-    ("step", step, 130),
+    ("step", step, 136),
 ]
 
 

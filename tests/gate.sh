@@ -1,5 +1,6 @@
 #!/usr/bin/env bash
-# The gate: rt ci once, then every other check on what it built. The last line is rt ci's own, printed again only if all passed.
+# The gate: the must-fail edits' texts and names, rt ci once, then every other check on what it built. The last line is rt ci's own, printed again only
+# if all passed.
 # With WITHOUT_RUST=1 the Rust crate and the command are not tried, and a line says so; without it cargo and rustc must be here.
 set -u
 cd "$(dirname "$0")/.." || exit 1
@@ -16,6 +17,9 @@ trap 'rm -rf "$work"' EXIT
 failures=0
 fail() { echo "gate: FAILED: $*"; failures=$((failures + 1)); }
 
+# ---- must-fail edits: each can be applied and is named in docs/CONTRACTS.md, and each name there is an edit. Told before the long part
+tests/edit_names.py || { echo "gate: FAILED: the edits and their names"; exit 1; }
+
 # ---- rt ci: proofs, must-fail edits, programs
 began=$(date +%s)
 rt ci 2>&1 | tee "$work/ci"
@@ -26,9 +30,6 @@ echo "gate: rt ci took $(($(date +%s) - began)) s"
 
 # ---- the layout
 rt fmt --check >"$work/fmt" 2>&1 || { cat "$work/fmt"; fail "rt fmt --check"; }
-
-# ---- must-fail edits: each is named in docs/CONTRACTS.md, and each name there is an edit
-tests/edit_names.py || fail "the names of the edits"
 
 # ---- must-fail edits: each was refused because a fact no longer holds
 tests/must_fail.py || fail "must-fail edits"

@@ -9,7 +9,7 @@ import sys
 
 # what a refusal's first error must not say, on any of its lines
 UNFIT = (
-    r"has no `Need-[^`]*` that can be named from here",
+    r"has no `(Need-[^`]*|Tie)` that can be named from here",
     r"error\[",
     r"is not in scope(?! here, so what is shown)",  # but for what a refusal says of its own print
     r"\bunexpected\b|\bexpected an? |\bparse",

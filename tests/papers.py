@@ -166,8 +166,8 @@ MIX, MIX_ANSWER = command(0x05, b"\x01"), b"\x00" + PUBLISHED
 EXAMPLE = MIX + command(0x03) + set_key(3, 2) + b"\x7f"
 EXAMPLE_ANSWERS = bytes.fromhex("00 01 01 03 0F 0A 1F 0F 0C 09 01 07")
 
-# the marks are 0 or 1; the key is that of 8nl bytes which made the working key, if one did
-State = collections.namedtuple("State", "n keyed ended key", defaults=[b""])
+# the marks are 0 or 1; the key is that of 8nl bytes which made the working key, if one did; the set is what the key names, which the tape passes over
+State = collections.namedtuple("State", "n keyed ended key set", defaults=[b"", 0])
 FRESH = State(0, 0, 0)
 
 

@@ -12,6 +12,7 @@ all their cases first:
     tape_program  the tapes of tests/tapes.py, by the papers and vectors
     rows_c        the C interface's functions on rows, by the archivists' product
     lines         tests/compare_c.py's, with one seed, through the C interface: long runs and damaged calls
+    stores        tests/stores.py's, through the C interface: keys that name a set, stores and histories
     inner         tests/wrong/inner.txt, functions called by themselves, by what their definitions say, worked out here
     records       tests/c_interface, stores and working keys through the C interface: numbers by the papers, bytes by round trips and by the other functions
 
@@ -22,6 +23,7 @@ import ctypes
 import functools
 import glob
 import hashlib
+import itertools
 import os
 import re
 import shutil
@@ -38,6 +40,7 @@ HERE = os.path.dirname(os.path.abspath(__file__))
 ROOT = os.path.dirname(HERE)
 sys.path[:0] = [os.path.join(HERE, "archivists"), HERE]
 import archivists_rows
+import archivists_sets
 import labyrinth
 import modes
 import papers
@@ -216,9 +219,12 @@ def through_c(crate, sources, place):
     return archive(crate, root, [name for name in reached((crate,)) if name != crate], sources, os.path.join(place, f"{crate}.a"))
 
 
+LINES = "labyrinth_c", "rows_c", "stores_c", "keys_c"  # what tests/labyrinth_lines.c calls
+
+
 def lines_program(sources, place):
     out = os.path.join(place, "lines")
-    made = [through_c(crate, sources, place) for crate in ("labyrinth_c", "rows_c")]
+    made = [through_c(crate, sources, place) for crate in LINES]
     command(["gcc", "-std=c11", "-O1", "-I", os.path.join(ROOT, "include"), "-o", out, os.path.join(HERE, "labyrinth_lines.c"), *made], "lines")
     return out
 
@@ -258,7 +264,7 @@ def shared(made, place):
     return out
 
 
-INNER = "buffers strings mixing rows eight_tables labyrinth tape_rules round_trips".split()  # what tests/wrong/inner.txt calls
+INNER = "buffers strings mixing rows eight_tables sets labyrinth tape_rules round_trips".split()  # what tests/wrong/inner.txt calls
 
 
 def inner(sources, place):
@@ -342,6 +348,25 @@ def shown_by_lines(path):
             return f"request {i} '{requests[i][:24].strip()}..': {differs}"
     if len(got) != len(cases) or ended:
         return f"request {len(got)} '{requests[min(len(got), len(cases) - 1)][:24].strip()}..': {ended or 'another count of answers'}"
+    return None
+
+
+@functools.cache
+def stored():
+    """The requests of tests/stores.py, with their kinds and what they must be answered."""
+    test = loaded("stores")
+    made = test.cases(test.SEED)[0]
+    return [(kind, test.line(request), test.expected(request)) for kind, request in made]
+
+
+def shown_by_stores(path):
+    wrote, ended = run(["stdbuf", "-oL", path], "".join(line for _, line, _ in stored()).encode())
+    got = wrote.decode(errors="replace").split("\n")[:-1]
+    for i, ((kind, line, want), answer) in enumerate(zip(stored(), got)):
+        if answer != want:
+            return f"request {i}, {kind}, '{line[:24].strip()}..': {apart(want, answer)}"
+    if len(got) != len(stored()) or ended:
+        return f"request {len(got)}: {ended or 'another count of answers'}"
     return None
 
 
@@ -516,24 +541,35 @@ def inner_cases():
     # where the eight tables go
     yield "wide_zeros", None, [out(b"\x5a" * 16384, 8)], (bytes(16384),)
     # the tape
-    yield "fresh", None, [out(b"\x5a" * 280, 8)], (bytes(280),)
-    # round trips: the numbers are those of sealing, then of opening
-    by_hand = loaded("expected").by_hand
+    yield "fresh", None, [out(b"\x5a" * 288, 8)], (bytes(288),)
+    # round trips: the numbers are those of sealing, then of opening; a key names the published set, or set 1 of the two stores, the last not loaded
+    given_sets = [*archivists_sets.OTHERS, (bytes(256), bytes(8))]
+
+    def worked(tables, n, work):
+        with archivists_sets.with_set(*tables):
+            return work(archivists_sets.under(n, words([0x0123456789ABCDEF] * 8 * n)))
+
     for n, length, middle, end in ((1, 48, 48, 48), (2, 64, 64, 64), (4, 64, 64, 64), (1, 32, 16, 32), (1, 32, 32, 33), (1, 15, 15, 15), (3, 48, 48, 48)):
         start, given = text[100 : 100 + 16 * n], text[:length]
-        for q in (None, 5):
+        for q, (i, here, there) in itertools.product((None, 5), ((0, 3, 3), (1, 0, 0), (1, 2, 2), (1, 1, 2), (1, 0, 3), (1, 3, 0))):
+            pair = [archivists_sets.PUBLISHED if i == 0 else given_sets[at] for at in (here, there)]
+            loaded_in = [i == 0 or at < 3 for at in (here, there)]
             numbers = papers.cbc if q is None else papers.ctr
-            first = numbers(n, 16 * n, length, middle)
-            number = first or numbers(n, 16 * n, middle, end)
-            cipher = None if first else by_hand(n)
-            sealed = b"\x5a" * middle if first else modes.cbc_encrypt(cipher, start, given) if q is None else modes.ctr_crypt(cipher, start, q, given)
+            first = numbers(n, 16 * n, length, middle, loaded_in[0])
+            number = first or numbers(n, 16 * n, middle, end, loaded_in[1])
+            seal = lambda e: modes.cbc_encrypt(e, start, given) if q is None else modes.ctr_crypt(e, start, q, given)
+            sealed = b"\x5a" * middle if first else worked(pair[0], n, seal)
+            back = lambda e: modes.cbc_decrypt(e, start, sealed) if q is None else modes.ctr_crypt(e, start, q, sealed)
             buffers = [given, out(b"\x5a" * middle), out(b"\xa5" * end)]
-            name, front = ("cbc_there_and_back", [n, start]) if q is None else ("ctr_there_and_back", [n, start, q])
-            yield name, U8, front + buffers, (number, sealed, b"\xa5" * end if number else given)
+            name, front = ("cbc_there_and_back", [n, i, start]) if q is None else ("ctr_there_and_back", [n, i, start, q])
+            opened = b"\xa5" * end if number else worked(pair[1], n, back)
+            yield name, U8, [*given_sets[here], *given_sets[there], *front, *buffers], (number, sealed, opened)
     for n, length, size in ((1, 0, 16), (1, 40, 8), (1, 16, 7), (2, 16, 16)):
-        number = papers.tag(n, size)
-        tag = b"\x5a" * size if number else modes.cmac(by_hand(n), text[:length], size)
-        yield "tag_made_and_verified", U8, [n, text[:length], out(b"\x5a" * size), place_for(1)], (number, tag, bytes([number == 0]))
+        for i, at in ((0, 3), (1, 0), (1, 2), (1, 3)):
+            number = papers.tag(n, size, i == 0 or at < 3)
+            tables = archivists_sets.PUBLISHED if i == 0 else given_sets[at]
+            tag = b"\x5a" * size if number else worked(tables, n, lambda e: modes.cmac(e, text[:length], size))
+            yield "tag_made_and_verified", U8, [*given_sets[at], n, i, text[:length], out(b"\x5a" * size), place_for(1)], (number, tag, bytes([number == 0]))
     for g in ROWS:
         for h in ROWS:
             number = papers.mixing(g) or papers.mixing(h)
@@ -583,7 +619,8 @@ PROGRAMS = {
         functools.partial(shown_by_calls, "rows_c"),
         lambda: None,
     ),
-    "lines": (("labyrinth_c", "rows_c"), lines_program, shown_by_lines, asked),
+    "lines": (LINES, lines_program, shown_by_lines, asked),
+    "stores": (LINES, lines_program, shown_by_stores, stored),
     "inner": (tuple(INNER), inner, functools.partial(shown_by_calls, "inner"), lambda: None),
     "records": (("labyrinth_c", "rows_c", "stores_c", "keys_c"), records_program, shown_by_records, lambda: None),
 }

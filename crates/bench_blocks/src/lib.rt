@@ -48,6 +48,7 @@ pub extern "C" fn sigourta_blocks(
     let u = table_cipher::inverse();
     let k = WorkingKey {
         n: n,
+        set: 0,
         words: *words,
     };
     let ks = table_cipher::schedule(k, back != 0);
@@ -58,6 +59,7 @@ pub extern "C" fn sigourta_blocks(
 fn key(n: usize, words: &[u64; 32]) -> WorkingKey {
     WorkingKey {
         n: n,
+        set: 0,
         words: *words,
     }
 }
@@ -65,7 +67,7 @@ fn key(n: usize, words: &[u64; 32]) -> WorkingKey {
 // Expands a key of l half-blocks.
 #[no_mangle]
 pub extern "C" fn sigourta_expand(n: usize, l: usize, key: &[u8], words: &mut [u64; 32]) -> u8 {
-    let x = expansion::expand(n, l, key);
+    let x = expansion::expand_published(n, l, key);
     let k = x.key;
     let w = k.words;
     *words = w;
@@ -80,7 +82,7 @@ pub extern "C" fn sigourta_cbc_seal(
     src: &[u8],
     dst: &mut [u8],
 ) -> u8 {
-    cbc::seal(key(n, words), start, src, dst)
+    cbc::seal_published(key(n, words), start, src, dst)
 }
 
 #[no_mangle]
@@ -91,7 +93,7 @@ pub extern "C" fn sigourta_cbc_open(
     src: &[u8],
     dst: &mut [u8],
 ) -> u8 {
-    cbc::open(key(n, words), start, src, dst)
+    cbc::open_published(key(n, words), start, src, dst)
 }
 
 #[no_mangle]
@@ -103,18 +105,18 @@ pub extern "C" fn sigourta_ctr(
     src: &[u8],
     dst: &mut [u8],
 ) -> u8 {
-    ctr::run(key(n, words), start, q, src, dst)
+    ctr::run_published(key(n, words), start, q, src, dst)
 }
 
 #[no_mangle]
 pub extern "C" fn sigourta_cmac(words: &[u64; 32], message: &[u8], tag: &mut [u8]) -> u8 {
-    cmac::make(key(1, words), message, tag)
+    cmac::make_published(key(1, words), message, tag)
 }
 
 // Whether the tag is the message's: 1 or 0.
 #[no_mangle]
 pub extern "C" fn sigourta_cmac_verify(words: &[u64; 32], message: &[u8], tag: &[u8]) -> u8 {
-    let v = cmac::verify(key(1, words), message, tag);
+    let v = cmac::verify_published(key(1, words), message, tag);
     if v.yes { 1 } else { 0 }
 }
 

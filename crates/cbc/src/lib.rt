@@ -73,8 +73,8 @@ pub fn seal(store: Store, k: WorkingKey, start: &[u8], src: &[u8], dst: &mut [u8
     let g = v.row;
     let t = table_cipher::table_of(g, &s);
     let u = table_cipher::inverse_of(&s);
-    let ks = table_cipher::schedule(k, false);
-    seal_lent(&t, &s, &u, n, &ks, start, src, dst)
+    let keys = table_cipher::schedule(k, false);
+    seal_lent(&t, &s, &u, n, &keys, start, src, dst)
 }
 
 // Opens a run with the tables lent. Every block is mapped, XOR the sealed block before it; before the first stands the start block.
@@ -149,11 +149,11 @@ pub fn open(store: Store, k: WorkingKey, start: &[u8], src: &[u8], dst: &mut [u8
     if number != 0 {
         return number;
     }
-    let v = sets::set_in(store, k.set);
-    let s = v.substitution;
-    let g = v.row;
+    let set = sets::set_in(store, k.set);
+    let s = set.substitution;
+    let g = set.row;
     let t = table_cipher::table_of(g, &s);
     let u = table_cipher::inverse_of(&s);
-    let ks = table_cipher::schedule(k, true);
-    open_lent(&t, &s, &u, n, &ks, start, src, dst)
+    let keys = table_cipher::schedule(k, true);
+    open_lent(&t, &s, &u, n, &keys, start, src, dst)
 }

@@ -6,6 +6,7 @@ use labyrinth::WorkingKey;
 use sets::Store;
 ghost use mathlib.Core.Path.{_≡_};
 ghost use mathlib.Core.List.{List};
+ghost use mathlib.Core.Bool.{false};
 ghost use Prim.Native.Nat.{ℕ, _*_, _-_};
 ghost use lib.ListN.{length, replicate};
 ghost use Rattle.forms.specs.Refusals.{outcome};
@@ -101,6 +102,16 @@ fn make_lent(
     0
 }
 
+// A refused tag.
+fn refused(number: u8) -> Verified
+    ensures { λ r. ⌜ r ≡ record { number = number; yes = false } ⌝ }
+{
+    Verified {
+        number: number,
+        yes: false,
+    }
+}
+
 // Verifies a given tag with the tables lent: every byte of it is compared.
 fn verify_lent(
     t: &[u64; 256],
@@ -116,10 +127,7 @@ fn verify_lent(
     let size = tag.len();
     let number = run_refusals::cmac_refusal(n, size);
     if number != 0 {
-        return Verified {
-            number: number,
-            yes: false,
-        };
+        return refused(number);
     }
     let made = last_of(t, s, u, ks, message);
     Verified {
@@ -172,8 +180,8 @@ pub fn make(store: Store, k: WorkingKey, message: &[u8], dst: &mut [u8]) -> u8
     let g = v.row;
     let t = table_cipher::table_of(g, &s);
     let u = table_cipher::inverse_of(&s);
-    let ks = table_cipher::schedule(k, false);
-    make_lent(&t, &s, &u, n, &ks, message, dst)
+    let keys = table_cipher::schedule(k, false);
+    make_lent(&t, &s, &u, n, &keys, message, dst)
 }
 
 // Verifies a given tag: a no with 15 if the set that the key names isn't loaded.
@@ -186,16 +194,13 @@ pub fn verify(store: Store, k: WorkingKey, message: &[u8], tag: &[u8]) -> Verifi
     let n = k.n;
     let number = labyrinth::under_key(n, sets::is_loaded(store, k.set), 0);
     if number != 0 {
-        return Verified {
-            number: number,
-            yes: false,
-        };
+        return refused(number);
     }
-    let v = sets::set_in(store, k.set);
-    let s = v.substitution;
-    let g = v.row;
+    let set = sets::set_in(store, k.set);
+    let s = set.substitution;
+    let g = set.row;
     let t = table_cipher::table_of(g, &s);
     let u = table_cipher::inverse_of(&s);
-    let ks = table_cipher::schedule(k, false);
-    verify_lent(&t, &s, &u, n, &ks, message, tag)
+    let keys = table_cipher::schedule(k, false);
+    verify_lent(&t, &s, &u, n, &keys, message, tag)
 }

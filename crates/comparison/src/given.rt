@@ -39,7 +39,13 @@ pub fn q(case: &[u8]) -> u64 {
 pub fn expanded(case: &[u8]) -> Expanded {
     let n = buffers::load_word(case, 0) as usize;
     let l = buffers::load_word(case, 8) as usize;
-    expansion::expand(n, l, reading::part(case, 32, start_at(case)))
+    expansion::expand(
+        sets::fresh(),
+        n,
+        l,
+        0,
+        reading::part(case, 32, start_at(case)),
+    )
 }
 
 // The working key: expanded, or with l = 0 made by hand, of that n and of words alike.
@@ -47,6 +53,7 @@ pub fn working_key(case: &[u8]) -> WorkingKey {
     if buffers::load_word(case, 8) == 0 {
         return WorkingKey {
             n: buffers::load_word(case, 0) as usize,
+            set: 0,
             words: [0x0123456789ABCDEF; 32],
         };
     }

@@ -1,6 +1,6 @@
 // Cases of kind 17: 0 for a tape made by hand, else the tape that the step before left; n of its key; its marks, 1 for 'set' and 2 for
-// 'ended'; the length of the answer buffer, which holds bytes AA; and the rest. The line is 'step', the number, the bytes taken, the bytes
-// written, n and the two marks of the next tape, and the answer buffer.
+// 'ended'; the length of the answer buffer, which holds bytes AA; and the rest. A key made by hand names set 9. The line is 'step', the number,
+// the bytes taken, the bytes written, n, the set and the two marks of the next tape, and the answer buffer.
 use crate::printing;
 use crate::reading;
 use labyrinth::WorkingKey;
@@ -19,6 +19,7 @@ fn print_mark(mark: bool) {
 fn by_hand(n: u8, marks: u8) -> Tape {
     let k = WorkingKey {
         n: n as usize,
+        set: 9,
         words: [0x0123456789ABCDEF; 32],
     };
     Tape {
@@ -39,6 +40,7 @@ fn begin(t: Tape, case: &[u8]) -> Tape {
 fn print_next(t: Tape) {
     let k = t.key;
     printing::number(b" ", k.n as u64);
+    printing::number(b" ", k.set as u64);
     print_mark(t.keyed);
     print_mark(t.ended);
 }

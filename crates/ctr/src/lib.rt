@@ -203,6 +203,6 @@ pub fn run(store: Store, k: WorkingKey, start: &[u8], q: u64, src: &[u8], dst: &
     let g = v.row;
     let t = table_cipher::table_of(g, &s);
     let u = table_cipher::inverse_of(&s);
-    let ks = table_cipher::schedule(k, false);
-    run_lent(&t, &s, &u, n, &ks, start, q, src, dst)
+    let keys = table_cipher::schedule(k, false);
+    run_lent(&t, &s, &u, n, &keys, start, q, src, dst)
 }

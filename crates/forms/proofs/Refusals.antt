@@ -30,6 +30,12 @@ pub unless-plain : {holds further : Type 0} {a : ℕ} (b : Bool) (number r : ℕ
 unless-plain true number r e h f = inr (h .0 refl, f e)
 unless-plain false number r e h f = inl (λ c. false≢true (h .1 c), e)
 
+-- other words for what a check says and for what follows
+pub unless-map : {holds otherwise further otherwise′ further′ : Type 0} → (otherwise → otherwise′) → (further → further′) → Unless holds otherwise further
+    → Unless holds otherwise′ further′
+unless-map f g (inl u) = inl (u .0, f (u .1))
+unless-map f g (inr u) = inr (u .0, g (u .1))
+
 -- what holds is asked for again
 pub unless-held : {holds otherwise further : Type 0} → holds → Unless holds otherwise further → further
 unless-held h (inl u) = absurd (u .0 h)

@@ -1,4 +1,4 @@
--- Two calls in a row, the second over what the first wrote: a first that is refused stops, and after one that passes the second undoes it.
+-- Two calls in a row, the second over what the first wrote: a first that is refused stops.
 -- Assumes nothing.
 use mathlib.Core.Path.{_≡_, refl, sym, ap, _∙_}
 use mathlib.Core.List.{List}
@@ -8,7 +8,7 @@ use borrow.Author.Tests.{eq-eqb, ne-eqb}
 use lib.Dec.{eqb}
 use lib.ListN.{length}
 use Rattle.forms.specs.Refusals.{Unless, outcome, firstOf}
-use Rattle.forms.proofs.Refusals.{refused-keeps, unless-plain}
+use Rattle.forms.proofs.Refusals.{outcome-cong, refused-keeps, unless-plain}
 use Rattle.forms.proofs.Booleans.{eqb-iff}
 
 pub first-refused : (a b : ℕ) → (a ≡ 0 → ⊥) → a ≡ firstOf a b
@@ -32,7 +32,7 @@ first-plain a b e = unless-plain (eqb a 0) a b e (eqb-iff a 0) (λ e. e)
 module _ (first : ℕ) (second : ℕ → ℕ) (run back : List ℕ → List ℕ) (src mid dst : List ℕ) where
   -- what both come to, where the last call that was made answers r and the buffers then hold m and d
   abbrev pub Both : ℕ → List ℕ → List ℕ → Type 0
-  Both r m d = (r ≡ firstOf first (second (length mid))) × ((m ≡ outcome first (run src) mid) × (d ≡ outcome r src dst))
+  Both r m d = (r ≡ firstOf first (second (length mid))) × ((m ≡ outcome first (run src) mid) × (d ≡ outcome r (back (run src)) dst))
 
   module _ {r : ℕ} {m : List ℕ} (e : r ≡ first) (w : m ≡ outcome r (run src) mid) where
     written : m ≡ outcome first (run src) mid
@@ -40,11 +40,15 @@ module _ (first : ℕ) (second : ℕ → ℕ) (run back : List ℕ → List ℕ)
 
     -- the first is refused
     pub stopped : (r ≡ 0 → ⊥) → Both r m dst
-    stopped h = (e ∙ first-refused first (second (length mid)) (λ z. h (e ∙ z)), (written, refused-keeps r src dst h))
+    stopped h = (e ∙ first-refused first (second (length mid)) (λ z. h (e ∙ z)), (written, refused-keeps r (back (run src)) dst h))
 
     -- it passes
-    pub went-on : r ≡ 0 → length m ≡ length mid → back (run src) ≡ src → {r₂ : ℕ} {d : List ℕ} → r₂ ≡ second (length m) → d ≡ outcome r₂ (back m) dst → Both r₂ m d
-    went-on z l u {r₂} e₂ w₂ = (
+    pub went-on : r ≡ 0 → length m ≡ length mid → {r₂ : ℕ} {d : List ℕ} → r₂ ≡ second (length m) → d ≡ outcome r₂ (back m) dst → Both r₂ m d
+    went-on z l {r₂} e₂ w₂ = (
       e₂ ∙ ap second l ∙ first-passed first (second (length mid)) (sym e ∙ z),
-      (written, w₂ ∙ ap (λ (x : List ℕ). outcome r₂ x dst) (ap back (w ∙ ap (λ (k : ℕ). outcome k (run src) mid) z) ∙ u)),
+      (written, w₂ ∙ ap (λ (x : List ℕ). outcome r₂ x dst) (ap back (w ∙ ap (λ (k : ℕ). outcome k (run src) mid) z))),
     )
+
+  -- where the second undoes the first, once that passed, what was given comes back
+  pub comes-back : (r : ℕ) {m d : List ℕ} → Both r m d → (first ≡ 0 → back (run src) ≡ src) → d ≡ outcome r src dst
+  comes-back r b u = b .1 .1 ∙ outcome-cong r (back (run src)) src dst (λ z. u (first-zero first (second (length mid)) (sym (b .0) ∙ z) .0))

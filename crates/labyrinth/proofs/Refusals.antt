@@ -7,7 +7,7 @@ use Prim.Native.Nat.{ℕ, _*_, _≤_}
 use native.Mathlib.Omega.{arith}
 use lib.Dec.{eqb}
 use Rattle.forms.specs.Refusals.{unless, Unless}
-use Rattle.forms.proofs.Refusals.{unless-plain, unless-three}
+use Rattle.forms.proofs.Refusals.{unless-zero, unless-plain, unless-three}
 use Rattle.forms.proofs.Booleans.{eqb-iff, one-of}
 use Rattle.labyrinth.specs.Working.{Size, Taken}
 use Rattle.labyrinth.specs.Refusals.{legal, legalLength, Legal, LegalLength, blockRefusal, expandRefusal, underKey, underLength}
@@ -78,6 +78,11 @@ pub under-length-number : {held further : Type 0} (n l : ℕ) (loaded : Bool) (n
 unfolding underLength
 under-length-number n l loaded number e h f =
     unless-plain (legal n) 1 _ e (legal-iff n) (λ e. unless-plain (legalLength l) 2 _ e (legalLength-iff l) (λ e. unless-plain loaded 15 _ e h f))
+
+-- what is taken, the operation takes
+pub under-zero : (n : ℕ) (loaded : Bool) (number : ℕ) → underKey n loaded number ≡ 0 → number ≡ 0
+unfolding underKey
+under-zero n loaded number e = unless-zero loaded 14 number (unless-zero (legal n) 0 _ e .1) .1
 
 -- checks made beforehand, with 0 for the operation's number: a refusal is the operation's, and after none its number is its own
 module _ (n : ℕ) (loaded : Bool) (number : ℕ) {r : ℕ} (e : r ≡ underKey n loaded 0) where

@@ -64,8 +64,8 @@ fn by_matrix(store: Store, k: WorkingKey, back: bool, src: &[u8], dst: &mut [u8]
     let g = v.row;
     let m = mixing::matrix(g);
     let u = sets::inverse(&s);
-    let ks = schedule::schedule(k, back);
-    apply_matrix(m, &s, &u, n, &ks, src, dst)
+    let keys = schedule::schedule(k, back);
+    apply_matrix(m, &s, &u, n, &keys, src, dst)
 }
 
 // Enciphers a block by the matrix.

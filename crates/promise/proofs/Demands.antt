@@ -14,9 +14,12 @@ use Rattle.field.proofs.Mixing.{mix-xor, mix-rotl}
 use Rattle.field.proofs.Eight.{mix-row-eight}
 use Rattle.labyrinth.specs.declared.WorkingKey.{WorkingKey}
 use Rattle.labyrinth.specs.declared.Expanded.{Expanded}
-use Rattle.labyrinth.specs.Cipher.{article}
+use Rattle.labyrinth.specs.Cipher.{Parts, article}
 use Rattle.labyrinth.specs.Keys.{E, U, expandedWords}
-use Rattle.labyrinth.specs.Refusals.{padded, blockRefusal, expandRefusal, expansion}
+use Rattle.labyrinth.specs.Refusals.{padded, blockRefusal, expandRefusal, underKey, expansion}
+use Rattle.labyrinth.specs.Working.{Taken}
+use Rattle.sets.specs.declared.Store.{Store}
+use Rattle.sets.specs.Sets.{loaded, partsIn}
 use Rattle.labyrinth.proofs.Refusals.{block-number, block-iff, expand-number, key-taken}
 use Rattle.labyrinth.proofs.Expansion.{expansion-number, expansion-blank, length-expandedWords, length-padded, padded-zero}
 use Rattle.labyrinth.proofs.Undo.{U-E, E-U}
@@ -39,7 +42,7 @@ use Rattle.tape_rules.proofs.Used.{Alike, step-used}
 use Rattle.tape_run.specs.declared.Answered.{Answered}
 use Rattle.tape_run.specs.Runs.{Ran, returned}
 use Rattle.tape_run.proofs.Runs.{steps-used, run-says}
-use Rattle.promise.specs.Demands.{KeysTaken, BlocksTaken, CbcTaken, CtrTaken, Kept, AnswersKey, AnswersBlock, AnswersCbc, AnswersCtr, AnswersStep, AnswersTape, Expands, Maps, Enciphers, Deciphers, SealsCbc, OpensCbc, RunsCtr, SealedByBlocks, OpenedByBlocks, CountedByBlocks, SubstitutionUndone, Steps, WorksTape, UnusedWordsZero, SameUsed, AlikeStates, AlikeAnswers, TapesOfUsedWords, EAndUUndo, BlocksComeBack, CbcOpensAgain, CtrOpensAgain, CbcCallsOpen, CtrCallsOpen, MixingOfXor, MixingRotated, MixingEightTimes}
+use Rattle.promise.specs.Demands.{KeysTaken, BlocksTaken, CbcTaken, CtrTaken, Kept, AnswersKey, AnswersBlock, AnswersCbc, AnswersCtr, AnswersStep, AnswersTape, Expands, Maps, Enciphers, Deciphers, SealsCbc, OpensCbc, RunsCtr, SealedBy, OpenedBy, CountedBy, SealedByBlocks, OpenedByBlocks, CountedByBlocks, SubstitutionUndone, Steps, WorksTape, UnusedWordsZero, SameUsed, AlikeStates, AlikeAnswers, TapesOfUsedWords, EAndUUndo, BlocksComeBack, CbcOpensAgain, CtrOpensAgain, CbcCallsOpen, CtrCallsOpen, MixingOfXor, MixingRotated, MixingEightTimes}
 
 -- ---- demand 1
 
@@ -63,8 +66,8 @@ pub answers-key : (n l : ℕ) (key : List ℕ) {answer : Expanded} → Expands n
 unfolding padded
 answers-key n l key {answer} h =
     let r = expandRefusal n l (length key) in
-    let e : answer .number ≡ r = ap (λ (x : Expanded). x .number) h ∙ expansion-number (article .SM) n l key r in
-    (expand-number n l (length key) e, λ z. ap (λ (x : Expanded). x .key) h ∙ expansion-blank (article .SM) n l key r (λ y. z (e ∙ y)))
+    let e : answer .number ≡ r = ap (λ (x : Expanded). x .number) h ∙ expansion-number (article .SM) 0 n l key r in
+    (expand-number n l (length key) e, λ z. ap (λ (x : Expanded). x .key) h ∙ expansion-blank (article .SM) 0 n l key r (λ y. z (e ∙ y)))
 
 pub answers-block : (map : List ℕ → List ℕ) (k : WorkingKey) (source : List ℕ) {number : ℕ} {before after : List ℕ}
     → Maps map (k .n) source number before after → AnswersBlock k source number before after
@@ -91,106 +94,95 @@ answers-tape tape {answer} {before} {after} h =
 
 -- ---- demand 2: the blocks of a run, and substitution
 
+-- by any parts
+module _ (p : Parts) (n : ℕ) (ws start : List ℕ) where
+  pub sealed-by : (source : List ℕ) (room : ℕ) {sealed : List ℕ} → cbcRefusal n (length start) (length source) room ≡ 0 → sealed ≡ cbcSeal (E p n ws) (16 * n) start source
+      → SealedBy (E p n ws) (16 * n) start source sealed
+  sealed-by source room r h =
+      let t = cbc-taken n (length start) (length source) room refl r in
+      rw h (length-seal (E p n ws) (16 * n) (keeps-E p n ws) start source (t .whole), λ i l. seal-block (E p n ws) (16 * n) (keeps-E p n ws) start source i l)
+
+  pub opened-by : (source : List ℕ) (room : ℕ) {opened : List ℕ} → cbcRefusal n (length start) (length source) room ≡ 0 → opened ≡ cbcOpen (U p n ws) (16 * n) start source
+      → OpenedBy (U p n ws) (16 * n) start source opened
+  opened-by source room r h =
+      let t = cbc-taken n (length start) (length source) room refl r in
+      rw h
+      (length-open (U p n ws) (16 * n) (keeps-U p n ws) start source (t .start) (t .whole), λ i l. open-block (U p n ws) (16 * n) (keeps-U p n ws) start source i (t .start) l)
+
+  pub counted-by : (q : ℕ) (source : List ℕ) (room : ℕ) {after : List ℕ} → ctrRefusal n (length start) (length source) room ≡ 0 → after ≡ ctr (E p n ws) (16 * n) start q source
+      → CountedBy (E p n ws) (16 * n) start q source after
+  counted-by q source room r h =
+      let t = ctr-taken n (length start) (length source) room refl r in
+      rw h (length-ctr (E p n ws) (16 * n) (keeps-E p n ws) start (omega (arith, t .size .pos)) q source, λ i l. ctr-block (E p n ws) (16 * n) (keeps-E p n ws) start q source i l)
+
 module _ (k : WorkingKey) (start : List ℕ) where
   pub sealed-by-blocks : (source before : List ℕ) {sealed : List ℕ} → SealsCbc k start source 0 before sealed → SealedByBlocks k start source sealed
-  sealed-by-blocks source before h =
-      let e = E article (k .n) (k .words) in
-      let keeps = keeps-E article (k .n) (k .words) in
-      let t = cbc-taken (k .n) (length start) (length source) (length before) (h .0) refl in
-      rw (h .1) (length-seal e (16 * k .n) keeps start source (t .whole), λ i l. seal-block e (16 * k .n) keeps start source i l)
+  sealed-by-blocks source before h = sealed-by article (k .n) (k .words) start source (length before) (sym (h .0)) (h .1)
 
   pub opened-by-blocks : (source before : List ℕ) {opened : List ℕ} → OpensCbc k start source 0 before opened → OpenedByBlocks k start source opened
-  opened-by-blocks source before h =
-      let u = U article (k .n) (k .words) in
-      let keeps = keeps-U article (k .n) (k .words) in
-      let t = cbc-taken (k .n) (length start) (length source) (length before) (h .0) refl in
-      rw (h .1) (length-open u (16 * k .n) keeps start source (t .start) (t .whole), λ i l. open-block u (16 * k .n) keeps start source i (t .start) l)
+  opened-by-blocks source before h = opened-by article (k .n) (k .words) start source (length before) (sym (h .0)) (h .1)
 
   pub counted-by-blocks : (q : ℕ) (source before : List ℕ) {after : List ℕ} → RunsCtr k start q source 0 before after → CountedByBlocks k start q source after
-  counted-by-blocks q source before h =
-      let e = E article (k .n) (k .words) in
-      let keeps = keeps-E article (k .n) (k .words) in
-      let t = ctr-taken (k .n) (length start) (length source) (length before) (h .0) refl in
-      rw (h .1) (length-ctr e (16 * k .n) keeps start (omega (arith, t .size .pos)) q source, λ i l. ctr-block e (16 * k .n) keeps start q source i l)
+  counted-by-blocks q source before h = counted-by article (k .n) (k .words) start q source (length before) (sym (h .0)) (h .1)
 
 pub substitution-undone : SubstitutionUndone
 substitution-undone b h = (table1-undo .back-there b h, table1-undo .there-back b h)
 
 -- ---- the working key
 
-pub unused-words-zero : (n l : ℕ) (key : List ℕ) {answer : Expanded} → Expands n l key answer → UnusedWordsZero answer
+-- by any word map, for any set, where a number of 0 means that the key is taken
+pub unused-words-zero : (SM : ℕ → ℕ) (i n l : ℕ) (key : List ℕ) (r : ℕ) {answer : Expanded} → (r ≡ 0 → Taken n l (length key)) → answer ≡ expansion SM i n l key r → UnusedWordsZero answer
 unfolding expansion
-unused-words-zero n l key {answer} h = rw h (by-number (expandRefusal n l (length key)) refl)
+unused-words-zero SM i n l key r {answer} taken h = rw h (by-number r taken)
   where
-    by-number : (r : ℕ) → expandRefusal n l (length key) ≡ r → UnusedWordsZero (expansion (article .SM) n l key r)
-    by-number zero e =
-        let t = key-taken n l (length key) refl e in
-        let s = length-expandedWords (article .SM) n l key (omega (arith, t .top)) in
+    by-number : (r : ℕ) → (r ≡ 0 → Taken n l (length key)) → UnusedWordsZero (expansion SM i n l key r)
+    by-number zero taken =
+        let t = taken refl in
+        let s = length-expandedWords SM n l key (omega (arith, t .top)) in
         let w : 8 * n ≤ 32 = omega (arith, t .size .top) in
-        (length-padded (expandedWords (article .SM) n l key) (omega arith), λ i g. padded-zero (expandedWords (article .SM) n l key) i (omega arith))
-    by-number (suc r) e = (length-padded [] (omega arith), λ i g. padded-zero [] i (omega arith))
+        (length-padded (expandedWords SM n l key) (omega arith), λ j g. padded-zero (expandedWords SM n l key) j (omega arith))
+    by-number (suc r) taken = (length-padded [] (omega arith), λ j g. padded-zero [] j (omega arith))
 
--- an operation that answers a number and fills a destination, both by what the key and the rest of the arguments give: g and g′ of two calls
-module _ {G : Type 0} (R : WorkingKey → G → ℕ) (M : WorkingKey → G → List ℕ) (held : G → List ℕ)
-    (same : (k j : WorkingKey) → SameUsed k j → (g : G) → (R k g ≡ R j g) × (M k g ≡ M j g)) where
-  pub two-calls : (k j : WorkingKey) {g g′ : G} {y z : ℕ} {e f : List ℕ} → SameUsed k j → g ≡ g′ → (y ≡ R k g) × (e ≡ outcome y (M k g) (held g))
-      → (z ≡ R j g′) × (f ≡ outcome z (M j g′) (held g′)) → (y ≡ z) × (e ≡ f)
-  two-calls k j {g} {g′} {y} {z} s p u v =
-      let r : y ≡ z = u .0 ∙ same k j s g .0 ∙ ap (R j) p ∙ sym (v .0) in
-      (r, u .1 ∙ ap₂ (λ (i : ℕ) (x : List ℕ). outcome i x (held g)) r (same k j s g .1) ∙ ap (λ (x : G). outcome z (M j x) (held x)) p ∙ sym (v .1))
-
--- a map under two such keys
-pub map-used : (map : ℕ → List ℕ → List ℕ) → (k j : WorkingKey) → SameUsed k j → map (k .n) (k .words) ≡ map (k .n) (j .words) → map (k .n) (k .words) ≡ map (j .n) (j .words)
-map-used map k j s e = e ∙ ap (λ (n : ℕ). map n (j .words)) (s .0)
-
-module _ (k j : WorkingKey) (s : SameUsed k j) where
-  -- a block map that depends on the used words only
-  maps-used : (m : ℕ → List ℕ → List ℕ → List ℕ) → ((n : ℕ) (ws vs : List ℕ) → Used n ws vs → (b : List ℕ) → m n ws b ≡ m n vs b)
-      → {g g′ : List ℕ × List ℕ} {y z : ℕ} {e f : List ℕ} → g ≡ g′ → Maps (m (k .n) (k .words)) (k .n) (g .0) y (g .1) e
-      → Maps (m (j .n) (j .words)) (j .n) (g′ .0) z (g′ .1) f → (y ≡ z) × (e ≡ f)
-  maps-used m used =
-      two-calls (λ k g. blockRefusal (k .n) (length (g .0)) (length (g .1))) (λ k g. m (k .n) (k .words) (g .0)) (λ g. g .1)
-      (λ k j s g. (
-        ap (λ (n : ℕ). blockRefusal n (length (g .0)) (length (g .1))) (s .0),
-        map-used (λ n ws. m n ws (g .0)) k j s (used (k .n) (k .words) (j .words) (s .1) (g .0)),
-      )) k j s
-
-  pub enciphers-used : {g g′ : List ℕ × List ℕ} {y z : ℕ} {e f : List ℕ} → g ≡ g′ → Enciphers k (g .0) y (g .1) e → Enciphers j (g′ .0) z (g′ .1) f
+-- an operation under a working key, for any set: own is its number by n and the rest r of the arguments, result what it gives by a set's parts, n, the
+-- words and the rest, held what its destination held. Two calls under keys alike, with one store, one set named and one rest
+module _ {R : Type 0} (own : ℕ → R → ℕ) (result : Parts → ℕ → List ℕ → R → List ℕ) (held : R → List ℕ) where
+  abbrev pub UnderUsed : Type 0
+  UnderUsed =
+      (k j : WorkingKey) (g g′ : Store × ℕ × R) (y z : ℕ) (e f : List ℕ) → SameUsed k j → g ≡ g′
+      → (y ≡ underKey (k .n) (loaded (g .0) (g .1)) (own (k .n) (g .2))) × (e ≡ outcome y (result (partsIn (g .0) (g .1)) (k .n) (k .words) (g .2)) (held (g .2)))
+      → (z ≡ underKey (j .n) (loaded (g′ .0) (g′ .1)) (own (j .n) (g′ .2))) × (f ≡ outcome z (result (partsIn (g′ .0) (g′ .1)) (j .n) (j .words) (g′ .2)) (held (g′ .2)))
       → (y ≡ z) × (e ≡ f)
-  enciphers-used = maps-used (E article) (E-used article)
 
-  pub deciphers-used : {g g′ : List ℕ × List ℕ} {y z : ℕ} {e f : List ℕ} → g ≡ g′ → Deciphers k (g .0) y (g .1) e → Deciphers j (g′ .0) z (g′ .1) f
-      → (y ≡ z) × (e ≡ f)
-  deciphers-used = maps-used (U article) (U-used article)
+  pub under-used : ((p : Parts) (n : ℕ) (ws vs : List ℕ) → Used n ws vs → (r : R) → result p n ws r ≡ result p n vs r) → UnderUsed
+  under-used used k j g g′ y z e f s p u v =
+      let n : ℕ → ℕ = λ i. underKey i (loaded (g .0) (g .1)) (own i (g .2)) in
+      let r : y ≡ z = u .0 ∙ ap n (s .0) ∙ ap (λ (x : Store × ℕ × R). underKey (j .n) (loaded (x .0) (x .1)) (own (j .n) (x .2))) p ∙ sym (v .0) in (
+        r,
+        u .1
+            ∙ ap₂ (λ (i : ℕ) (x : List ℕ). outcome i x (held (g .2))) r
+            (used (partsIn (g .0) (g .1)) (k .n) (k .words) (j .words) (s .1) (g .2) ∙ ap (λ (i : ℕ). result (partsIn (g .0) (g .1)) i (j .words) (g .2)) (s .0))
+            ∙ ap (λ (x : Store × ℕ × R). outcome z (result (partsIn (x .0) (x .1)) (j .n) (j .words) (x .2)) (held (x .2))) p
+            ∙ sym (v .1),
+      )
 
-  -- a chained run that does
-  chains-used : (m : ℕ → List ℕ → List ℕ → List ℕ → List ℕ) → ((n : ℕ) (ws vs : List ℕ) → Used n ws vs → (c p : List ℕ) → m n ws c p ≡ m n vs c p)
-      → {g g′ : List ℕ × List ℕ × List ℕ} {y z : ℕ} {e f : List ℕ} → g ≡ g′
-      → (y ≡ cbcRefusal (k .n) (length (g .0)) (length (g .1)) (length (g .2))) × (e ≡ outcome y (m (k .n) (k .words) (g .0) (g .1)) (g .2))
-      → (z ≡ cbcRefusal (j .n) (length (g′ .0)) (length (g′ .1)) (length (g′ .2))) × (f ≡ outcome z (m (j .n) (j .words) (g′ .0) (g′ .1)) (g′ .2)) → (y ≡ z) × (e ≡ f)
-  chains-used m used =
-      two-calls (λ k g. cbcRefusal (k .n) (length (g .0)) (length (g .1)) (length (g .2))) (λ k g. m (k .n) (k .words) (g .0) (g .1)) (λ g. g .2)
-      (λ k j s g. (
-        ap (λ (n : ℕ). cbcRefusal n (length (g .0)) (length (g .1)) (length (g .2))) (s .0),
-        map-used (λ n ws. m n ws (g .0) (g .1)) k j s (used (k .n) (k .words) (j .words) (s .1) (g .0) (g .1)),
-      )) k j s
+-- a block, a chained run, a counted one
+pub enciphers-used : UnderUsed {R = List ℕ × List ℕ} (λ n r. blockRefusal n (length (r .0)) (length (r .1))) (λ p n ws r. E p n ws (r .0)) (λ r. r .1)
+enciphers-used = under-used _ _ _ (λ p n ws vs s r. E-used p n ws vs s (r .0))
 
-  pub seals-used : {g g′ : List ℕ × List ℕ × List ℕ} {y z : ℕ} {e f : List ℕ} → g ≡ g′ → SealsCbc k (g .0) (g .1) y (g .2) e → SealsCbc j (g′ .0) (g′ .1) z (g′ .2) f
-      → (y ≡ z) × (e ≡ f)
-  seals-used = chains-used (λ n ws. cbcSeal (E article n ws) (16 * n)) (λ n ws vs s. seal-used article n ws vs s (16 * n))
+pub deciphers-used : UnderUsed {R = List ℕ × List ℕ} (λ n r. blockRefusal n (length (r .0)) (length (r .1))) (λ p n ws r. U p n ws (r .0)) (λ r. r .1)
+deciphers-used = under-used _ _ _ (λ p n ws vs s r. U-used p n ws vs s (r .0))
 
-  pub opens-used : {g g′ : List ℕ × List ℕ × List ℕ} {y z : ℕ} {e f : List ℕ} → g ≡ g′ → OpensCbc k (g .0) (g .1) y (g .2) e → OpensCbc j (g′ .0) (g′ .1) z (g′ .2) f
-      → (y ≡ z) × (e ≡ f)
-  opens-used = chains-used (λ n ws. cbcOpen (U article n ws) (16 * n)) (λ n ws vs s. open-used article n ws vs s (16 * n))
+pub seals-used : UnderUsed {R = List ℕ × List ℕ × List ℕ} (λ n r. cbcRefusal n (length (r .0)) (length (r .1)) (length (r .2)))
+    (λ p n ws r. cbcSeal (E p n ws) (16 * n) (r .0) (r .1)) (λ r. r .2)
+seals-used = under-used _ _ _ (λ p n ws vs s r. seal-used p n ws vs s (16 * n) (r .0) (r .1))
 
-  pub runs-used : {g g′ : List ℕ × ℕ × List ℕ × List ℕ} {y z : ℕ} {e f : List ℕ} → g ≡ g′ → RunsCtr k (g .0) (g .1) (g .2) y (g .3) e
-      → RunsCtr j (g′ .0) (g′ .1) (g′ .2) z (g′ .3) f → (y ≡ z) × (e ≡ f)
-  runs-used =
-      two-calls (λ k g. ctrRefusal (k .n) (length (g .0)) (length (g .2)) (length (g .3))) (λ k g. ctr (E article (k .n) (k .words)) (16 * k .n) (g .0) (g .1) (g .2)) (λ g. g .3)
-      (λ k j s g. (
-        ap (λ (n : ℕ). ctrRefusal n (length (g .0)) (length (g .2)) (length (g .3))) (s .0),
-        map-used (λ n ws. ctr (E article n ws) (16 * n) (g .0) (g .1) (g .2)) k j s (ctr-used article (k .n) (k .words) (j .words) (s .1) (16 * k .n) (g .0) (g .1) (g .2)),
-      )) k j s
+pub opens-used : UnderUsed {R = List ℕ × List ℕ × List ℕ} (λ n r. cbcRefusal n (length (r .0)) (length (r .1)) (length (r .2)))
+    (λ p n ws r. cbcOpen (U p n ws) (16 * n) (r .0) (r .1)) (λ r. r .2)
+opens-used = under-used _ _ _ (λ p n ws vs s r. open-used p n ws vs s (16 * n) (r .0) (r .1))
+
+pub runs-used : UnderUsed {R = List ℕ × ℕ × List ℕ × List ℕ} (λ n r. ctrRefusal n (length (r .0)) (length (r .2)) (length (r .3)))
+    (λ p n ws r. ctr (E p n ws) (16 * n) (r .0) (r .1) (r .2)) (λ r. r .3)
+runs-used = under-used _ _ _ (λ p n ws vs s r. ctr-used p n ws vs s (16 * n) (r .0) (r .1) (r .2))
 
 -- the tape
 alike : (t u : Tape) → AlikeStates t u → Alike t u

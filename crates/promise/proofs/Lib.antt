@@ -1,4 +1,5 @@
 pub mod Values
 pub mod Demands
 pub mod Requests
+pub mod Stores
 pub mod Operations

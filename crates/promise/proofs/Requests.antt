@@ -37,9 +37,11 @@ use Rattle.rows.proofs.Inverses.{inverse-row, product-inverse, only-inverse, no
 use Rattle.judge.proofs.Verdicts.{one-verdict, zero-row-short, neutral-short, good-accepted, nine-at-most}
 use Rattle.labyrinth.specs.Blocks.{each}
 use Rattle.labyrinth.specs.declared.WorkingKey.{WorkingKey}
-use Rattle.labyrinth.specs.Cipher.{article}
+use Rattle.labyrinth.specs.Cipher.{Parts, article}
 use Rattle.labyrinth.specs.Keys.{E}
-use Rattle.labyrinth.specs.Refusals.{legal, legalLength}
+use Rattle.labyrinth.specs.Refusals.{legal, legalLength, underKey}
+use Rattle.sets.specs.declared.Store.{Store}
+use Rattle.sets.specs.Sets.{loaded, partsIn}
 use Rattle.labyrinth.proofs.Agree.{E-used}
 use Rattle.modes.specs.Cmac.{K1, K2, tag}
 use Rattle.modes.specs.Refusals.{cmacRefusal}
@@ -63,7 +65,7 @@ use Rattle.tape_run.proofs.Runs.{gives as run-gives, run-iff, run-whole}
 use Rattle.tape_run.proofs.Endings.{last-eight, Begun, last-well, eight-trails, eight-once, copy-whole, copy-short}
 use Rattle.promise.specs.Demands.{SameUsed, WorksTape}
 use Rattle.promise.specs.Requests.{MasksDoubled, OneRemainder, MakesTag, VerifiesTag, YesExactly, TagsTaken, AnswersTag, AnswersVerifying, EmptyRest, EndedState, FiveFirst, example, Gets, ExampleKept, EmptyTape, TellsItsEnd, OneEight, NothingLost, ShortTold, ShortCoefficients, EndsAfterHighestOne, TurnsNamed, MakesTable, MakesTheTableLent, by, EightTimesByRow, PublishedPower, XorByRow, RotatedByRow, LooksUp, MixesBy, AnswersMixing, TableNumber, AnswersTable, OneAfterAnother, OneAnswerAfterAnother, AcceptedTogether, OrderFree, AnswersInverse, OneInverse, PublishedInverse, GroupingFree, ChangesNoWord, ChangesNoRow, WordBack, Converts, OneVerdict, ZeroRowShort, NeutralShort, GoodAccepted, NineAtMost}
-use Rattle.promise.proofs.Demands.{kept, two-calls, map-used}
+use Rattle.promise.proofs.Demands.{kept, UnderUsed, under-used}
 
 -- ---- Job 1
 
@@ -78,20 +80,25 @@ masks-doubled ws =
 pub one-remainder : OneRemainder
 one-remainder = only-remainder
 
-pub yes-exactly : (k : WorkingKey) (message given : List ℕ) {answer : Verified} → VerifiesTag k message given answer → YesExactly k message given answer
+-- by any parts, where a number of 0 means that the tag is taken
+pub yes-by : (p : Parts) (k : WorkingKey) (message given : List ℕ) (r : ℕ) {answer : Verified} → (r ≡ 0 → cmacRefusal (k .n) (length given) ≡ 0)
+    → answer ≡ verification (E p (k .n) (k .words)) message given r → (answer .yes ≡ true) ↔ ((answer .number ≡ 0) × (given ≡ tag (E p (k .n) (k .words)) (length given) message))
 unfolding verification
-yes-exactly k message given h = rw h (by-number (cmacRefusal (k .n) (length given)) refl)
+yes-by p k message given r taken h = rw h (by-number r taken)
   where
     e : List ℕ → List ℕ
-    e = E article (k .n) (k .words)
+    e = E p (k .n) (k .words)
 
-    by-number : (r : ℕ) → cmacRefusal (k .n) (length given) ≡ r
+    by-number : (r : ℕ) → (r ≡ 0 → cmacRefusal (k .n) (length given) ≡ 0)
         → (verification e message given r .yes ≡ true) ↔ ((verification e message given r .number ≡ 0) × (given ≡ tag e (length given) message))
-    by-number zero p =
-        let t = cmac-taken (k .n) (length given) refl p in
-        let v = valid-iff e (keeps-one article (k .n) (k .words) (t .one)) message given (t .top) in
+    by-number zero taken =
+        let t = cmac-taken (k .n) (length given) refl (taken refl) in
+        let v = valid-iff e (keeps-one p (k .n) (k .words) (t .one)) message given (t .top) in
         (λ y. (refl, v .0 y), λ h. v .1 (h .1))
-    by-number (suc r) p = (λ y. absurd (false≢true y), λ h. let f : ⊥ = omega (arith, h .0) in absurd f)
+    by-number (suc r) taken = (λ y. absurd (false≢true y), λ h. let f : ⊥ = omega (arith, h .0) in absurd f)
+
+pub yes-exactly : (k : WorkingKey) (message given : List ℕ) {answer : Verified} → VerifiesTag k message given answer → YesExactly k message given answer
+yes-exactly k message given h = yes-by article k message given (cmacRefusal (k .n) (length given)) (λ z. z) h
 
 pub tags-taken : TagsTaken
 tags-taken n size number u =
@@ -108,21 +115,21 @@ answers-verifying k message given {answer} h =
     let p : answer .number ≡ r = ap (λ (v : Verified). v .number) h ∙ verification-number e message given r in
     (cmac-number (k .n) (length given) p, λ z. ap (λ (v : Verified). v .yes) (h ∙ sym (refused-no e message given r refl (λ y. z (p ∙ y)))))
 
--- document 01: later answers depend on the used words only
-module _ (k j : WorkingKey) (s : SameUsed k j) where
-  pub tags-used : {g g′ : List ℕ × List ℕ} {y z : ℕ} {e f : List ℕ} → g ≡ g′ → MakesTag k (g .0) y (g .1) e → MakesTag j (g′ .0) z (g′ .1) f → (y ≡ z) × (e ≡ f)
-  tags-used =
-      two-calls (λ k g. cmacRefusal (k .n) (length (g .1))) (λ k g. tag (E article (k .n) (k .words)) (length (g .1)) (g .0)) (λ g. g .1)
-      (λ k j s g. (
-        ap (λ (n : ℕ). cmacRefusal n (length (g .1))) (s .0),
-        map-used (λ n ws. tag (E article n ws) (length (g .1)) (g .0)) k j s (tag-used article (k .n) (k .words) (j .words) (s .1) (length (g .1)) (g .0)),
-      )) k j s
+-- document 01: later answers depend on the used words only, for any set
+pub tags-used : UnderUsed {R = List ℕ × List ℕ} (λ n r. cmacRefusal n (length (r .1))) (λ p n ws r. tag (E p n ws) (length (r .1)) (r .0)) (λ r. r .1)
+tags-used = under-used _ _ _ (λ p n ws vs s r. tag-used p n ws vs s (length (r .1)) (r .0))
 
-  pub verifies-used : {g g′ : List ℕ × List ℕ} {y z : Verified} → g ≡ g′ → VerifiesTag k (g .0) (g .1) y → VerifiesTag j (g′ .0) (g′ .1) z → y ≡ z
-  verifies-used {g} p a b =
-      a ∙ ap (λ (e : List ℕ → List ℕ). verification e (g .0) (g .1) (cmacRefusal (k .n) (length (g .1)))) (fun-ext (E-used article (k .n) (k .words) (j .words) (s .1)))
-      ∙ ap (λ (n : ℕ). verification (E article n (j .words)) (g .0) (g .1) (cmacRefusal n (length (g .1)))) (s .0)
-      ∙ ap (λ (x : List ℕ × List ℕ). verification (E article (j .n) (j .words)) (x .0) (x .1) (cmacRefusal (j .n) (length (x .1)))) p ∙ sym b
+-- what verifying says, by n and the block map
+abbrev pub said : Store × ℕ × (List ℕ × List ℕ) → ℕ → (List ℕ → List ℕ) → Verified
+said g n e = verification e (g .2 .0) (g .2 .1) (underKey n (loaded (g .0) (g .1)) (cmacRefusal n (length (g .2 .1))))
+
+pub verifies-used : (k j : WorkingKey) (g g′ : Store × ℕ × (List ℕ × List ℕ)) (y z : Verified) → SameUsed k j → g ≡ g′ → y ≡ said g (k .n) (E (partsIn (g .0) (g .1)) (k .n) (k .words))
+    → z ≡ said g′ (j .n) (E (partsIn (g′ .0) (g′ .1)) (j .n) (j .words)) → y ≡ z
+verifies-used k j g g′ y z s p a b =
+    a
+    ∙ ap (said g (k .n)) (fun-ext (E-used (partsIn (g .0) (g .1)) (k .n) (k .words) (j .words) (s .1)))
+    ∙ ap (λ (n : ℕ). said g n (E (partsIn (g .0) (g .1)) n (j .words))) (s .0)
+    ∙ ap (λ (x : Store × ℕ × (List ℕ × List ℕ)). said x (j .n) (E (partsIn (x .0) (x .1)) (j .n) (j .words))) p ∙ sym b
 
 -- ---- Job 2
 

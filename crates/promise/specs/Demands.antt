@@ -1,5 +1,6 @@
 -- The user's demands 1, 2 and 3, sentence by sentence: each is quoted, and what stands for it is stated over the definitions. Where a
--- sentence speaks of what operations do, the statement is over the operation's answer.
+-- sentence speaks of what operations do, the statement is over the operation's answer. Since Job 7 of document 02 an operation takes a store too, and its
+-- key names a set of tables: what stands here is of calls that name set 0, the published one.
 -- Assumes nothing.
 use mathlib.Core.Path.{_≡_}
 use mathlib.Core.Bool.{false}
@@ -31,13 +32,7 @@ use Rattle.tape_run.specs.Runs as tape-run
 use Rattle.modes.specs.Cbc.{cbcSeal, cbcOpen, before as blockBefore}
 use Rattle.modes.specs.Ctr.{counter, blocks, ctr}
 use Rattle.modes.specs.Refusals.{cbcRefusal, ctrRefusal}
-
--- a list of bytes, a list of words of 64 bits
-abbrev pub Bytes : List ℕ → Type 0
-Bytes bs = (i : ℕ) → getD bs i 0 < 2 ^ 8
-
-abbrev pub Words : List ℕ → Type 0
-Words ws = (i : ℕ) → getD ws i 0 < 2 ^ 64
+use Rattle.publishers.specs.Pages.{Bytes, Words}
 
 -- ---- Demand 1
 
@@ -87,7 +82,7 @@ Kept number before after = (number ≡ 0 → ⊥) → after ≡ before
 -- "The working key returned with a refusal has n = 0 and all words zero."
 abbrev pub AnswersKey : ℕ → ℕ → List ℕ → Expanded → Type 0
 AnswersKey n l key answer =
-    KeyNumber n l (length key) (answer .number) × ((answer .number ≡ 0 → ⊥) → answer .key ≡ record { n = 0; words = replicate 32 0 })
+    KeyNumber n l (length key) (answer .number) × ((answer .number ≡ 0 → ⊥) → answer .key ≡ record { n = 0; set = 0; words = replicate 32 0 })
 
 abbrev pub AnswersBlock : WorkingKey → List ℕ → ℕ → List ℕ → List ℕ → Type 0
 AnswersBlock k source number before after = BlockNumber (k .n) (length source) (length before) number × Kept number before after
@@ -120,7 +115,7 @@ AnswersTape tape answer before after =
 -- "Expansion, enciphering and deciphering give, bit for bit, the Labyrinth of the article (source document 000) at blocks of 128, 256 and 512
 -- bits with three key lengths each."
 abbrev pub Expands : ℕ → ℕ → List ℕ → Expanded → Type 0
-Expands n l key answer = answer ≡ expansion (article .SM) n l key (expandRefusal n l (length key))
+Expands n l key answer = answer ≡ expansion (article .SM) 0 n l key (expandRefusal n l (length key))
 
 abbrev pub Maps : (List ℕ → List ℕ) → ℕ → List ℕ → ℕ → List ℕ → List ℕ → Type 0
 Maps map n source number before after = (number ≡ blockRefusal n (length source) (length before)) × (after ≡ outcome number (map source) before)
@@ -150,25 +145,31 @@ RunsCtr k start q source number before after =
 -- document 01: "Sealed block i is E of the XOR of source block i with the sealed block before it. Opened block i is U of sealed block i, XORed with the
 -- sealed block before it. Before block 0 stands the start block." "Block i of a run is bytes 16ni to 16ni + 16n − 1." Of a run that was taken, which
 -- leaves as many bytes as the source has:
-abbrev pub SealedByBlocks : WorkingKey → List ℕ → List ℕ → List ℕ → Type 0
-SealedByBlocks k start source sealed =
-    let z = 16 * k .n in
+abbrev pub SealedBy : (List ℕ → List ℕ) → ℕ → List ℕ → List ℕ → List ℕ → Type 0
+SealedBy e z start source sealed =
     (length sealed ≡ length source)
-    × ((i : ℕ) → i < length source / z → block z i sealed ≡ E article (k .n) (k .words) (xorBytes (block z i source) (blockBefore z start sealed i)))
+    × ((i : ℕ) → i < length source / z → block z i sealed ≡ e (xorBytes (block z i source) (blockBefore z start sealed i)))
+
+abbrev pub OpenedBy : (List ℕ → List ℕ) → ℕ → List ℕ → List ℕ → List ℕ → Type 0
+OpenedBy u z start source opened =
+    (length opened ≡ length source)
+    × ((i : ℕ) → i < length source / z → block z i opened ≡ xorBytes (u (block z i source)) (blockBefore z start source i))
+
+abbrev pub SealedByBlocks : WorkingKey → List ℕ → List ℕ → List ℕ → Type 0
+SealedByBlocks k = SealedBy (E article (k .n) (k .words)) (16 * k .n)
 
 abbrev pub OpenedByBlocks : WorkingKey → List ℕ → List ℕ → List ℕ → Type 0
-OpenedByBlocks k start source opened =
-    let z = 16 * k .n in
-    (length opened ≡ length source)
-    × ((i : ℕ) → i < length source / z → block z i opened ≡ xorBytes (U article (k .n) (k .words) (block z i source)) (blockBefore z start source i))
+OpenedByBlocks k = OpenedBy (U article (k .n) (k .words)) (16 * k .n)
 
 -- "a last short block uses the first bytes of its key stream .. each source byte is XORed with the key stream's byte at its place. Block i, from 0,
 -- enciphers the start block plus q + i, modulo 2^(128n), read with its LAST byte least": `counter`; a last short block is counted by `blocks`
-abbrev pub CountedByBlocks : WorkingKey → List ℕ → ℕ → List ℕ → List ℕ → Type 0
-CountedByBlocks k start q source after =
-    let z = 16 * k .n in
+abbrev pub CountedBy : (List ℕ → List ℕ) → ℕ → List ℕ → ℕ → List ℕ → List ℕ → Type 0
+CountedBy e z start q source after =
     (length after ≡ length source)
-    × ((i : ℕ) → i < blocks z (length source) → block z i after ≡ xorBytes (block z i source) (E article (k .n) (k .words) (counter z start (q + i))))
+    × ((i : ℕ) → i < blocks z (length source) → block z i after ≡ xorBytes (block z i source) (e (counter z start (q + i))))
+
+abbrev pub CountedByBlocks : WorkingKey → List ℕ → ℕ → List ℕ → List ℕ → Type 0
+CountedByBlocks k = CountedBy (E article (k .n) (k .words)) (16 * k .n)
 
 -- "S is one-to-one; its inverse is used too." "Mixing and substitution take any value and never refuse." Mixing is below and, since it takes a row, in
 -- Requests
@@ -187,7 +188,7 @@ Steps t rest answer before after = let a = step t rest (length before) in (answe
 
 -- "A fresh state has n = 0, zero words, and neither mark."
 abbrev pub Fresh : Tape → Type 0
-Fresh answer = answer ≡ record { key = record { n = 0; words = replicate 32 0 }; keyed = false; ended = false }
+Fresh answer = answer ≡ record { key = record { n = 0; set = 0; words = replicate 32 0 }; keyed = false; ended = false }
 
 -- "The tape program steps through the tape .. until it is ended and writes the answers": the work of the program, from a tape to a buffer
 abbrev pub WorksTape : List ℕ → Answered → List ℕ → List ℕ → Type 0

@@ -13,7 +13,7 @@ use Rattle.forms.specs.Words.{rotl, eachByte}
 use Rattle.forms.specs.Refusals.{Unless, outcome, firstOf}
 use Rattle.forms.specs.Strings.{number}
 use Rattle.field.specs.Field.{mul, power, polyMul}
-use Rattle.field.specs.Substitution.{sub}
+use Rattle.field.specs.Substitution.{sub, Different}
 use Rattle.field.specs.Mixing.{mix, product, rowSum, scale}
 use Rattle.field.specs.Merged.{merged, lookup}
 use Rattle.field.specs.Published.{table1, row}
@@ -26,12 +26,23 @@ use Rattle.rows.specs.Inverse.{Row, neutral, inverseRow, inverted}
 use Rattle.judge.specs.declared.Verdict.{Verdict}
 use Rattle.judge.specs.Judge.{together, GoodEnough, FallsShort}
 use Rattle.labyrinth.specs.declared.WorkingKey.{WorkingKey}
-use Rattle.labyrinth.specs.Cipher.{article}
-use Rattle.labyrinth.specs.Keys.{E}
-use Rattle.labyrinth.specs.Refusals.{Legal}
+use Rattle.labyrinth.specs.declared.Expanded.{Expanded}
+use Rattle.labyrinth.specs.Cipher.{Parts, article}
+use Rattle.labyrinth.specs.Keys.{E, U, expandedWords}
+use Rattle.labyrinth.specs.Refusals.{Legal, LegalLength, blockRefusal, expandRefusal, underKey, underLength, padded, expansion}
+use Rattle.sets.specs.declared.Set.{Set}
+use Rattle.sets.specs.declared.Store.{Store}
+use Rattle.sets.specs.declared.Changed.{Changed}
+use Rattle.sets.specs.Sets.{partsIn, loaded, Loaded, Held, freshStore, withSet, withTaken, load}
+use Rattle.sets.specs.Sets as store
+use Rattle.publishers.specs.Calls.{Use, Call, loads, takes, uses, answer, after}
+use Rattle.publishers.specs.Calls as calls
+use Rattle.publishers.specs.Pages.{Bytes, Words, SameSet}
 use Rattle.modes.specs.Cmac.{K1, K2, tag}
 use Rattle.modes.specs.Gf128.{Remainder}
-use Rattle.modes.specs.Refusals.{cmacRefusal}
+use Rattle.modes.specs.Cbc.{cbcSeal, cbcOpen}
+use Rattle.modes.specs.Ctr.{ctr}
+use Rattle.modes.specs.Refusals.{cbcRefusal, ctrRefusal, cmacRefusal}
 use Rattle.cmac.specs.declared.Verified.{Verified}
 use Rattle.cmac.specs.Verification.{verification}
 use Rattle.tape_rules.specs.declared.Tape.{Tape}
@@ -40,7 +51,7 @@ use Rattle.tape_rules.specs.Steps.{Answer, ended}
 use Rattle.tape_rules.specs.Plain.{UnknownCommand}
 use Rattle.tape_run.specs.declared.Answered.{Answered}
 use Rattle.tape_run.specs.Runs.{joined, tapeSteps, lastAnswer, lastRest}
-use Rattle.promise.specs.Demands.{Kept, Steps, WorksTape}
+use Rattle.promise.specs.Demands.{KeyNumber, BlockNumber, CbcNumber, CtrNumber, Kept, Steps, WorksTape}
 
 -- ---- Job 1: a tag on each page
 
@@ -329,3 +340,142 @@ GoodAccepted = (g : List ℕ) → Row g → GoodEnough g → rowRefusal g ≡ 0
 -- and no row does better than nine
 abbrev pub NineAtMost : Type 0
 NineAtMost = (g : List ℕ) → together g 1 ≤ 9
+
+-- ---- Job 7: two publishers, one set of tables
+
+-- "The working key's record now names its set, and expansion and block operations use that set." Of an operation under a working key: own is the
+-- number that it answers for a loaded set, result what it gives by a set's tables
+abbrev pub UsesSet : Store → WorkingKey → ℕ → (Parts → List ℕ) → ℕ → List ℕ → List ℕ → Type 0
+UsesSet store k own result number before after =
+    (number ≡ underKey (k .n) (loaded store (k .set)) own) × (after ≡ outcome number (result (partsIn store (k .set))) before)
+
+abbrev pub ExpandsFor : Store → ℕ → ℕ → ℕ → List ℕ → Expanded → Type 0
+ExpandsFor store n l i key answer =
+    answer ≡ expansion (partsIn store i .SM) i n l key (underLength n l (loaded store i) (expandRefusal n l (length key)))
+
+abbrev pub EnciphersIn : Store → WorkingKey → List ℕ → ℕ → List ℕ → List ℕ → Type 0
+EnciphersIn store k source number before after =
+    UsesSet store k (blockRefusal (k .n) (length source) (length before)) (λ p. E p (k .n) (k .words) source) number before after
+
+abbrev pub DeciphersIn : Store → WorkingKey → List ℕ → ℕ → List ℕ → List ℕ → Type 0
+DeciphersIn store k source number before after =
+    UsesSet store k (blockRefusal (k .n) (length source) (length before)) (λ p. U p (k .n) (k .words) source) number before after
+
+abbrev pub SealsCbcIn : Store → WorkingKey → List ℕ → List ℕ → ℕ → List ℕ → List ℕ → Type 0
+SealsCbcIn store k start source number before after =
+    UsesSet store k (cbcRefusal (k .n) (length start) (length source) (length before))
+    (λ p. cbcSeal (E p (k .n) (k .words)) (16 * k .n) start source) number before after
+
+abbrev pub OpensCbcIn : Store → WorkingKey → List ℕ → List ℕ → ℕ → List ℕ → List ℕ → Type 0
+OpensCbcIn store k start source number before after =
+    UsesSet store k (cbcRefusal (k .n) (length start) (length source) (length before))
+    (λ p. cbcOpen (U p (k .n) (k .words)) (16 * k .n) start source) number before after
+
+abbrev pub RunsCtrIn : Store → WorkingKey → List ℕ → ℕ → List ℕ → ℕ → List ℕ → List ℕ → Type 0
+RunsCtrIn store k start q source number before after =
+    UsesSet store k (ctrRefusal (k .n) (length start) (length source) (length before))
+    (λ p. ctr (E p (k .n) (k .words)) (16 * k .n) start q source) number before after
+
+abbrev pub MakesTagIn : Store → WorkingKey → List ℕ → ℕ → List ℕ → List ℕ → Type 0
+MakesTagIn store k message number before after =
+    UsesSet store k (cmacRefusal (k .n) (length before)) (λ p. tag (E p (k .n) (k .words)) (length before) message) number before after
+
+abbrev pub VerifiesTagIn : Store → WorkingKey → List ℕ → List ℕ → Verified → Type 0
+VerifiesTagIn store k message given answer =
+    answer ≡ verification (E (partsIn store (k .set)) (k .n) (k .words)) message given (underKey (k .n) (loaded store (k .set)) (cmacRefusal (k .n) (length given)))
+
+-- "With 0 named, all former guarantees read as before": with `k .set ≡ 0` each of these is what Demands and Job 1 have (proofs/Operations).
+
+-- "It refuses .. use of an unloaded set, with 15 .. block operations, runs and tags check 15 right after 1, expansion right after 2." In plain terms and
+-- in order, with what a refusal leaves and returns: `Loaded store i`
+abbrev pub UnderKey : Store → WorkingKey → ℕ → Type 0 → Type 0
+UnderKey store k number further = Unless (Legal (k .n)) (number ≡ 1) (Unless (Loaded store (k .set)) (number ≡ 15) further)
+
+abbrev pub AnswersBlockIn : Store → WorkingKey → List ℕ → ℕ → List ℕ → List ℕ → Type 0
+AnswersBlockIn store k source number before after =
+    UnderKey store k number (BlockNumber (k .n) (length source) (length before) number) × Kept number before after
+
+abbrev pub AnswersCbcIn : Store → WorkingKey → List ℕ → List ℕ → ℕ → List ℕ → List ℕ → Type 0
+AnswersCbcIn store k start source number before after =
+    UnderKey store k number (CbcNumber (k .n) (length start) (length source) (length before) number) × Kept number before after
+
+abbrev pub AnswersCtrIn : Store → WorkingKey → List ℕ → List ℕ → ℕ → List ℕ → List ℕ → Type 0
+AnswersCtrIn store k start source number before after =
+    UnderKey store k number (CtrNumber (k .n) (length start) (length source) (length before) number) × Kept number before after
+
+abbrev pub AnswersTagIn : Store → WorkingKey → ℕ → List ℕ → List ℕ → Type 0
+AnswersTagIn store k number before after = UnderKey store k number (TagNumber (k .n) (length before) number) × Kept number before after
+
+abbrev pub AnswersVerifyingIn : Store → WorkingKey → List ℕ → Verified → Type 0
+AnswersVerifyingIn store k given answer =
+    UnderKey store k (answer .number) (TagNumber (k .n) (length given) (answer .number)) × ((answer .number ≡ 0 → ⊥) → answer .yes ≡ false)
+
+-- a key that is refused has n, set and words zero; one that is taken names the set that it was expanded for
+abbrev pub AnswersKeyFor : Store → ℕ → ℕ → ℕ → List ℕ → Expanded → Type 0
+AnswersKeyFor store n l i key answer =
+    Unless (Legal n) (answer .number ≡ 1) (Unless (LegalLength l) (answer .number ≡ 2)
+    (Unless (Loaded store i) (answer .number ≡ 15) (KeyNumber n l (length key) (answer .number))))
+    × ((answer .number ≡ 0 → ⊥) → answer .key ≡ record { n = 0; set = 0; words = replicate 32 0 })
+    × (answer .number ≡ 0 → (answer .key .n ≡ n) × (answer .key .set ≡ i))
+
+-- verifying by any set: "says yes if and only if the given tag equals those first bytes"
+abbrev pub YesExactlyIn : Store → WorkingKey → List ℕ → List ℕ → Verified → Type 0
+YesExactlyIn store k message given answer =
+    (answer .yes ≡ true) ↔ ((answer .number ≡ 0) × (given ≡ tag (E (partsIn store (k .set)) (k .n) (k .words)) (length given) message))
+
+-- "A publisher loads a set, or takes one, which drops the one taken before." "A fresh store has only set 0 loaded and none taken." What else is said of
+-- stores is in crate publishers, specs/Stores
+abbrev pub MakesFresh : Store → Type 0
+MakesFresh answer = answer ≡ freshStore
+
+abbrev pub Loads : Store → ℕ → ℕ → List ℕ → List ℕ → Changed → Type 0
+Loads s p i substitution row answer = answer ≡ load s p i substitution row
+
+abbrev pub Takes : Store → ℕ → ℕ → Changed → Type 0
+Takes s p i answer = answer ≡ store.take s p i
+
+-- "It refuses a publisher or set number outside the store, or the taking or use of an unloaded set, with 15; then, in loading, a substitution that isn't 256
+-- different bytes with 14, then 13, then a set that someone holds, the loader included, with 16; a refused load or take changes nothing in the store"
+abbrev pub AnswersLoad : Store → ℕ → ℕ → List ℕ → List ℕ → Changed → Type 0
+AnswersLoad s p i substitution row answer =
+    Unless ((p < 2) × (i < 4)) (answer ≡ record { number = 15; store = s })
+    (Unless (Different substitution) (answer ≡ record { number = 14; store = s })
+    (Unless (rowSum row ≡ 0 → ⊥) (answer ≡ record { number = 13; store = s })
+    (Unless (Held s i → ⊥) (answer ≡ record { number = 16; store = s })
+    (answer ≡ record { number = 0; store = withSet s i (record { substitution = substitution; row = row }) }))))
+
+abbrev pub AnswersTake : Store → ℕ → ℕ → Changed → Type 0
+AnswersTake s p i answer =
+    Unless ((p < 2) × (i < 4) × Loaded s i) (answer ≡ record { number = 15; store = s }) (answer ≡ record { number = 0; store = withTaken s p i })
+
+-- "What one publisher gets from a call depends on its key, its input, the sets and what it has taken itself, never on the other's keys or pages; only
+-- whether a load is refused may depend on what the other has taken." Crate publishers states this over histories of calls (`Isolated`, `SameToOne`,
+-- `LoadAlone`); and what a call in a history is said to answer, the operation answers
+abbrev pub AnswersUse : Store → Use → calls.Answer → Type 0
+AnswersUse s u given = (p : ℕ) → answer s (uses p u) ≡ given
+
+abbrev pub AnswersCall : Store → Call → Changed → Type 0
+AnswersCall s call changed = (answer s call ≡ calls.number (changed .number)) × (after s call ≡ changed .store)
+
+-- "with another, the opened page is still the sealed one, against the article's map with that set's tables, provided the stores handed in at expanding,
+-- sealing and opening have that set loaded with the same substitution and row": a key expanded with store x, a page sealed with s and opened with t, each
+-- call answered 0. That one store kept throughout has, unless the set was loaded anew between, is `KeptUnlessRenewed` of crate publishers
+abbrev pub CbcPageOpens : Type 0
+CbcPageOpens =
+    (x s t : Store) (n l i : ℕ) (secret : List ℕ) (e : Expanded) (start page before sealed room opened : List ℕ) → SameSet i x s → SameSet i s t
+    → Words (e .key .words) → Bytes start → Bytes page → ExpandsFor x n l i secret e → e .number ≡ 0
+    → SealsCbcIn s (e .key) start page 0 before sealed → OpensCbcIn t (e .key) start sealed 0 room opened
+    → (sealed ≡ cbcSeal (E (partsIn s i) n (padded (expandedWords (partsIn s i .SM) n l secret))) (16 * n) start page) × (opened ≡ page)
+
+abbrev pub CtrPageOpens : Type 0
+CtrPageOpens =
+    (x s t : Store) (n l i : ℕ) (secret : List ℕ) (e : Expanded) (start : List ℕ) (q : ℕ) (page before sealed room opened : List ℕ) → SameSet i x s
+    → SameSet i s t → ExpandsFor x n l i secret e → e .number ≡ 0 → RunsCtrIn s (e .key) start q page 0 before sealed
+    → RunsCtrIn t (e .key) start q sealed 0 room opened
+    → (sealed ≡ ctr (E (partsIn s i) n (padded (expandedWords (partsIn s i .SM) n l secret))) (16 * n) start q page) × (opened ≡ page)
+
+-- and of a function that makes both calls, with two stores: Demands' ComesBack, where both have the set alike
+abbrev pub ComesBackIn : Store → Store → WorkingKey → ℕ → ℕ → List ℕ → ℕ → List ℕ → List ℕ → Type 0
+ComesBackIn s t k sealing opening source number before after =
+    (number ≡ firstOf (underKey (k .n) (loaded s (k .set)) sealing) (underKey (k .n) (loaded t (k .set)) opening))
+    × (SameSet (k .set) s t → after ≡ outcome number source before)

@@ -9,13 +9,12 @@ use lib.Dec.{eqb}
 use lib.ListN.{length}
 use Rattle.forms.specs.Refusals.{outcome}
 use Rattle.forms.proofs.Booleans.{or-neither}
-use Rattle.forms.proofs.Refusals.{unless-zero}
 use Rattle.labyrinth.specs.declared.Expanded.{Expanded}
 use Rattle.labyrinth.specs.Cipher.{Parts, partsOf}
 use Rattle.labyrinth.specs.Keys.{E, U}
-use Rattle.labyrinth.specs.Refusals.{legal, underKey, underLength, blockRefusal, expandRefusal, expansion}
+use Rattle.labyrinth.specs.Refusals.{underKey, underLength, blockRefusal, expandRefusal, expansion}
 use Rattle.labyrinth.proofs.Undo.{U-E, E-U}
-use Rattle.labyrinth.proofs.Refusals.{block-iff}
+use Rattle.labyrinth.proofs.Refusals.{block-iff, under-zero}
 use Rattle.labyrinth.proofs.Expansion.{expansion-number}
 use Rattle.modes.specs.Cbc.{cbcOpen}
 use Rattle.modes.specs.Ctr.{ctr}
@@ -24,7 +23,7 @@ use Rattle.modes.proofs.Again.{cbc-again, ctr-again}
 use Rattle.sets.specs.declared.Set.{Set}
 use Rattle.sets.specs.declared.Store.{Store}
 use Rattle.sets.specs.Sets.{setIn, substitutionIn, rowIn, partsIn, loaded, loadRefusal, load, take}
-use Rattle.sets.proofs.Sets.{loaded-sound, loaded-alike}
+use Rattle.sets.proofs.Sets.{setIn-zero, loaded-zero, loaded-sound, loaded-alike}
 use Rattle.publishers.specs.Calls.{Call, loads, takes, uses, Answer, number, key, buffer, verdict, left, named, used, answer, after, afterAll, renewed}
 use Rattle.publishers.specs.Pages.{SameSet, KeptUnlessRenewed, SetsUndo, BlocksComeBackIn, CbcOpensAgainIn, CtrOpensAgainIn, ExpandsIn}
 use Rattle.publishers.proofs.Stores.{load-is, refused-load, load-leaves, take-sets, same-sets}
@@ -65,7 +64,14 @@ sets-undo s i l n ws b w e h = (U-E (partsIn s i) (loaded-sound s i l) n ws b w 
 
 -- ---- over two stores
 
-same-parts : {i : ℕ} {s t : Store} → SameSet i s t → partsIn s i ≡ partsIn t i
+-- set 0 is in any two the same
+pub zero-same : (s t : Store) (i : ℕ) → i ≡ 0 → SameSet i s t
+unfolding substitutionIn rowIn
+zero-same s t i z =
+    let e = setIn-zero s i z ∙ sym (setIn-zero t i z) in
+    record { here = loaded-zero s i z; there = loaded-zero t i z; substitution = ap (λ (v : Set). v .substitution) e; row = ap (λ (v : Set). v .row) e }
+
+pub same-parts : {i : ℕ} {s t : Store} → SameSet i s t → partsIn s i ≡ partsIn t i
 unfolding partsIn
 same-parts h = ap₂ partsOf (h .substitution) (h .row)
 
@@ -87,10 +93,6 @@ expandedOf d (number r) = d
 expandedOf d (key e) = e
 expandedOf d (buffer r bs) = d
 expandedOf d (verdict v) = d
-
-under-zero : (n : ℕ) (is : Bool) (own : ℕ) → underKey n is own ≡ 0 → own ≡ 0
-unfolding underKey
-under-zero n is own e = unless-zero is 14 own (unless-zero (legal n) 0 _ e .1) .1
 
 answered : (n : ℕ) (is : Bool) (own : ℕ) (x before : List ℕ) {y : List ℕ} → left (underKey n is own) x before ≡ buffer 0 y → (own ≡ 0) × (x ≡ y)
 unfolding numberOf bytesOf

@@ -3,40 +3,50 @@
 use cmac::Verified;
 use labyrinth::WorkingKey;
 use rows::Mixed;
+use sets::Store;
 ghost use mathlib.Core.Path.{_≡_};
 ghost use Prim.Native.Nat.{_*_};
 ghost use lib.Dec.{eqb};
 ghost use lib.ListN.{length};
 ghost use Rattle.forms.specs.Refusals.{outcome, firstOf};
 ghost use Rattle.rows.specs.Rows.{rowRefusal, mixed};
-ghost use Rattle.labyrinth.specs.Cipher.{article};
-ghost use Rattle.labyrinth.specs.Keys.{E};
-ghost use Rattle.modes.specs.Cbc.{cbcSeal};
+ghost use Rattle.labyrinth.specs.Keys.{E, U};
+ghost use Rattle.labyrinth.specs.Refusals.{underKey};
+ghost use Rattle.sets.specs.Sets.{loaded, partsIn};
+ghost use Rattle.publishers.specs.Pages.{SameSet};
+ghost use Rattle.modes.specs.Cbc.{cbcSeal, cbcOpen};
 ghost use Rattle.modes.specs.Ctr.{ctr as ctrRun};
 ghost use Rattle.modes.specs.Cmac.{tag as madeTag};
 ghost use Rattle.modes.specs.Refusals.{cbcRefusal, ctrRefusal, cmacRefusal};
 
-// Seals src to mid and, if that was not refused, opens mid to dst: then dst holds what src holds.
+// Seals src to mid with one store and, if that was not refused, opens mid to dst with another: if both have the key's set alike, dst then
+// holds what src holds.
 pub fn cbc_there_and_back(
+    sealing: Store,
+    opening: Store,
     k: WorkingKey,
     start: &[u8],
     src: &[u8],
     mid: &mut [u8],
     dst: &mut [u8],
 ) -> u8
-    ensures number { λ r. ⌜ r ≡ firstOf (cbcRefusal (k .n) (length (now (start .entry))) (length (now (src .entry))) (length (now (mid .entry)))) (cbcRefusal (k .n) (length (now (start .entry))) (length (now (mid .entry))) (length (now (dst .entry)))) ⌝ }
-    ensures sealed { λ _. ⌜ now (mid .exit) ≡ outcome (cbcRefusal (k .n) (length (now (start .entry))) (length (now (src .entry))) (length (now (mid .entry)))) (cbcSeal (E article (k .n) (k .words)) (16 * k .n) (now (start .entry)) (now (src .entry))) (now (mid .entry)) ⌝ }
-    ensures opened { λ r. ⌜ now (dst .exit) ≡ outcome r (now (src .entry)) (now (dst .entry)) ⌝ }
+    ensures number { λ r. ⌜ r ≡ firstOf (underKey (k .n) (loaded sealing (k .set)) (cbcRefusal (k .n) (length (now (start .entry))) (length (now (src .entry))) (length (now (mid .entry))))) (underKey (k .n) (loaded opening (k .set)) (cbcRefusal (k .n) (length (now (start .entry))) (length (now (mid .entry))) (length (now (dst .entry))))) ⌝ }
+    ensures sealed { λ _. ⌜ now (mid .exit) ≡ outcome (underKey (k .n) (loaded sealing (k .set)) (cbcRefusal (k .n) (length (now (start .entry))) (length (now (src .entry))) (length (now (mid .entry))))) (cbcSeal (E (partsIn sealing (k .set)) (k .n) (k .words)) (16 * k .n) (now (start .entry)) (now (src .entry))) (now (mid .entry)) ⌝ }
+    ensures opened { λ r. ⌜ now (dst .exit) ≡ outcome r (cbcOpen (U (partsIn opening (k .set)) (k .n) (k .words)) (16 * k .n) (now (start .entry)) (cbcSeal (E (partsIn sealing (k .set)) (k .n) (k .words)) (16 * k .n) (now (start .entry)) (now (src .entry)))) (now (dst .entry)) ⌝ }
+    ensures back { λ r. ⌜ (SameSet (k .set) sealing opening → now (dst .exit) ≡ outcome r (now (src .entry)) (now (dst .entry))) ⌝ }
 {
-    let number = cbc::seal(k, start, src, mid);
+    let number = cbc::seal(sealing, k, start, src, mid);
     if number != 0 {
         return number;
     }
-    cbc::open(k, start, mid, dst)
+    cbc::open(opening, k, start, mid, dst)
 }
 
-// Seals src to mid and, if that was not refused, opens mid to dst, which then holds what src holds.
+// Seals src to mid with one store and, if that was not refused, opens mid to dst with another: if both have the key's set alike, dst then
+// holds what src holds.
 pub fn ctr_there_and_back(
+    sealing: Store,
+    opening: Store,
     k: WorkingKey,
     start: &[u8],
     q: u64,
@@ -44,24 +54,30 @@ pub fn ctr_there_and_back(
     mid: &mut [u8],
     dst: &mut [u8],
 ) -> u8
-    ensures number { λ r. ⌜ r ≡ firstOf (ctrRefusal (k .n) (length (now (start .entry))) (length (now (src .entry))) (length (now (mid .entry)))) (ctrRefusal (k .n) (length (now (start .entry))) (length (now (mid .entry))) (length (now (dst .entry)))) ⌝ }
-    ensures sealed { λ r. ⌜ now (mid .exit) ≡ outcome (ctrRefusal (k .n) (length (now (start .entry))) (length (now (src .entry))) (length (now (mid .entry)))) (ctrRun (E article (k .n) (k .words)) (16 * k .n) (now (start .entry)) q (now (src .entry))) (now (mid .entry)) ⌝ }
-    ensures opened { λ r. ⌜ now (dst .exit) ≡ outcome r (now (src .entry)) (now (dst .entry)) ⌝ }
+    ensures number { λ r. ⌜ r ≡ firstOf (underKey (k .n) (loaded sealing (k .set)) (ctrRefusal (k .n) (length (now (start .entry))) (length (now (src .entry))) (length (now (mid .entry))))) (underKey (k .n) (loaded opening (k .set)) (ctrRefusal (k .n) (length (now (start .entry))) (length (now (mid .entry))) (length (now (dst .entry))))) ⌝ }
+    ensures sealed { λ _. ⌜ now (mid .exit) ≡ outcome (underKey (k .n) (loaded sealing (k .set)) (ctrRefusal (k .n) (length (now (start .entry))) (length (now (src .entry))) (length (now (mid .entry))))) (ctrRun (E (partsIn sealing (k .set)) (k .n) (k .words)) (16 * k .n) (now (start .entry)) q (now (src .entry))) (now (mid .entry)) ⌝ }
+    ensures opened { λ r. ⌜ now (dst .exit) ≡ outcome r (ctrRun (E (partsIn opening (k .set)) (k .n) (k .words)) (16 * k .n) (now (start .entry)) q (ctrRun (E (partsIn sealing (k .set)) (k .n) (k .words)) (16 * k .n) (now (start .entry)) q (now (src .entry)))) (now (dst .entry)) ⌝ }
+    ensures back { λ r. ⌜ (SameSet (k .set) sealing opening → now (dst .exit) ≡ outcome r (now (src .entry)) (now (dst .entry))) ⌝ }
 {
-    let number = ctr::run(k, start, q, src, mid);
+    let number = ctr::run(sealing, k, start, q, src, mid);
     if number != 0 {
         return number;
     }
-    ctr::run(k, start, q, mid, dst)
+    ctr::run(opening, k, start, q, mid, dst)
 }
 
 // Makes a message's tag and verifies it: yes, unless it was refused.
-pub fn tag_made_and_verified(k: WorkingKey, message: &[u8], tag: &mut [u8]) -> Verified
-    ensures answer { λ r. ⌜ r ≡ record { number = cmacRefusal (k .n) (length (now (tag .entry))); yes = eqb (cmacRefusal (k .n) (length (now (tag .entry)))) 0 } ⌝ }
-    ensures made { λ _. ⌜ now (tag .exit) ≡ outcome (cmacRefusal (k .n) (length (now (tag .entry)))) (madeTag (E article (k .n) (k .words)) (length (now (tag .entry))) (now (message .entry))) (now (tag .entry)) ⌝ }
+pub fn tag_made_and_verified(
+    store: Store,
+    k: WorkingKey,
+    message: &[u8],
+    tag: &mut [u8],
+) -> Verified
+    ensures answer { λ r. ⌜ r ≡ record { number = underKey (k .n) (loaded store (k .set)) (cmacRefusal (k .n) (length (now (tag .entry)))); yes = eqb (underKey (k .n) (loaded store (k .set)) (cmacRefusal (k .n) (length (now (tag .entry))))) 0 } ⌝ }
+    ensures made { λ _. ⌜ now (tag .exit) ≡ outcome (underKey (k .n) (loaded store (k .set)) (cmacRefusal (k .n) (length (now (tag .entry))))) (madeTag (E (partsIn store (k .set)) (k .n) (k .words)) (length (now (tag .entry))) (now (message .entry))) (now (tag .entry)) ⌝ }
 {
-    cmac::make(k, message, tag);
-    cmac::verify(k, message, tag)
+    cmac::make(store, k, message, tag);
+    cmac::verify(store, k, message, tag)
 }
 
 // Mixes a word by the row g and converts it to the row h, by the product of g's inverse row and h: the word mixed by h, unless one of the two

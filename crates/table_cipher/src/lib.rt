@@ -150,8 +150,8 @@ fn by_table(store: Store, k: WorkingKey, back: bool, src: &[u8], dst: &mut [u8])
     let g = v.row;
     let t = table_of(g, &s);
     let u = inverse_of(&s);
-    let ks = schedule(k, back);
-    map_block(&t, &s, &u, n, &ks, src, dst)
+    let keys = schedule(k, back);
+    map_block(&t, &s, &u, n, &keys, src, dst)
 }
 
 // Enciphers a block by the merged table.

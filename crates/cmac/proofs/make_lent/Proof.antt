@@ -43,7 +43,7 @@ returns-2 c =
     let map : ℕ → List ℕ → List ℕ = λ n. lent n (a .t .now) (a .s .now) (a .u .now) (a .ks .now) in (
       sym (e .if1 .left) ∙ e .before .cmac-refusal .ensures,
       tag-copied (map (a .n)) (a .message .now) (keeps-lent-one (a .n) (a .t .now) (a .s .now) (a .u .now) (a .ks .now) (taken e .one)) (a .dst .now) (taken e .top)
-      (c .before .before .before .before .before .last-of .ensures ∙ ap (λ (n : ℕ). mac (map n) (a .message .now)) (sym (taken e .one))) (c .before .before .copy-into .ensures),
+          (c .before .before .before .before .before .last-of .ensures ∙ ap (λ (n : ℕ). mac (map n) (a .message .now)) (sym (taken e .one))) (c .before .before .copy-into .ensures),
     )
 
 pub make-lent-spec : {M : Type 1} → statement M

@@ -34,8 +34,11 @@ under-key-requires c κs = search needs
 checked : (c : tie.After-under-key) → let a = c .before .before .before .before .before .before .args in c .under-key .result ≡ underKey (a .k .n) (loaded (a .store) (a .k .set)) 0
 checked c = c .under-key .ensures ∙ ap (λ (b : Bool). underKey (c .before .before .before .before .before .before .args .k .n) b 0) (c .before .is-loaded .ensures)
 
+refused-requires : tie.Need-refused-requires
+refused-requires c κs = search needs
+
 returns-2 : tie.Need-returns-2
-returns-2 c = refused-no _ _ _ _ (under-refused _ _ _ (checked (c .before)) (c .if2 .taken)) (c .if2 .taken)
+returns-2 c = c .refused .ensures ∙ refused-no _ _ _ _ (under-refused _ _ _ (checked (c .before .before)) (c .before .if2 .taken)) (c .before .if2 .taken)
 
 set-in-requires : tie.Need-set-in-requires
 set-in-requires c κs = search needs
@@ -76,6 +79,7 @@ verify-spec =
     returns
     is-loaded-requires
     under-key-requires
+    refused-requires
     returns-2
     set-in-requires
     table-of-requires

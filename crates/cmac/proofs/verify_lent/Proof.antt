@@ -18,8 +18,11 @@ use Rattle.cmac.proofs.verify_lent.Tie as tie
 cmac-refusal-requires : tie.Need-cmac-refusal-requires
 cmac-refusal-requires c κs = search needs
 
+refused-requires : tie.Need-refused-requires
+refused-requires c κs = search needs
+
 returns : tie.Need-returns
-returns c = refused-no _ _ _ _ (c .before .cmac-refusal .ensures) (c .if1 .taken)
+returns c = c .refused .ensures ∙ refused-no _ _ _ _ (c .before .before .cmac-refusal .ensures) (c .before .if1 .taken)
 
 -- what a tag that is taken has, the last block, and that it is as long at least
 taken : (c : tie.Else1) → let a = c .before .before .before .before .args in Cmac-taken (a .n) (length (a .tag .now))
@@ -57,6 +60,7 @@ verify-lent-spec =
     tie.close
     (tie.spec
     cmac-refusal-requires
+    refused-requires
     returns
     last-of-requires
     array-share-prefix-made

@@ -5,8 +5,10 @@ use Prim.Native.Nat.{ℕ}
 use lib.ListN.{length}
 use borrow.Author.Needs.{needs}
 use Rattle.forms.specs.Refusals.{outcome}
-use Rattle.labyrinth.specs.Cipher.{article}
 use Rattle.labyrinth.specs.Keys.{E}
+use Rattle.labyrinth.specs.Refusals.{underKey}
+use Rattle.labyrinth.proofs.Refusals.{under-zero}
+use Rattle.sets.specs.Sets.{loaded, partsIn}
 use Rattle.modes.specs.Cmac.{tag}
 use Rattle.modes.specs.Refusals.{cmacRefusal}
 use Rattle.modes.proofs.Maps.{keeps-one}
@@ -28,10 +30,13 @@ returns : tie.Need-returns
 returns c =
     let m = c .before .before .before .before in
     let a = m .before .before .before .before .args in
-    let e = E article (a .k .n) (a .k .words) in
+    let parts = partsIn (a .store) (a .k .set) in
+    let e = E parts (a .k .n) (a .k .words) in
+    let refusal : ℕ → ℕ = λ l. underKey (a .k .n) (loaded (a .store) (a .k .set)) (cmacRefusal (a .k .n) l) in
     let old = a .tag .now in (
-      made-verified e (a .message .now) old (cmacRefusal (a .k .n)) (λ z. let t = cmac-taken (a .k .n) (length old) refl z in (keeps-one article (a .k .n) (a .k .words) (t .one), t .top))
-          (m .make .ensures .0) (m .make .ensures .1) (m .make .kept .1 .1 .0) (c .verify .ensures),
+      made-verified e (a .message .now) old refusal
+          (λ z. let t = cmac-taken (a .k .n) (length old) refl (under-zero (a .k .n) (loaded (a .store) (a .k .set)) _ z) in (keeps-one parts (a .k .n) (a .k .words) (t .one), t .top))
+          (m .make .ensures .0) (m .make .ensures .1) (m .make .kept .1 .1 .1 .0) (c .verify .ensures),
       m .make .ensures .1 ∙ ap (λ (n : ℕ). outcome n (tag e (length old) (a .message .now)) old) (m .make .ensures .0),
     )
 
