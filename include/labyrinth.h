@@ -95,8 +95,8 @@ uint8_t labyrinth_store_fresh(uint8_t *store, size_t store_len);
 uint8_t labyrinth_store_load(uint8_t *store, size_t store_len, uint64_t publisher, uint64_t set, const uint8_t *substitution, size_t substitution_len, const uint8_t *row, size_t row_len);
 uint8_t labyrinth_store_take(uint8_t *store, size_t store_len, uint64_t publisher, uint64_t set);
 
-/* The working key of a key, by a set. With set 0 it is the key that the functions above expand. The store is only read, and is looked into
- * only for another set than 0. */
+/* The working key of a key, by a set, which it then names. With set 0 it is the key that the functions above expand, whatever the store
+ * holds. */
 uint8_t labyrinth_expand(const uint8_t *store, size_t store_len, uint64_t n, uint64_t l, uint64_t set, const uint8_t *key, size_t key_len, uint8_t *working, size_t working_len);
 
 /* Blocks, runs and tags under a working key, by the set that it names and what the store holds there now. With a working key of set 0 they
