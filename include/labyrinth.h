@@ -5,7 +5,7 @@
  *
  * Returned is the number of documents 01 and 02: 0 if it was done, else the first of these that applies, and then dst, or the tag to be
  * made, holds what it held before, and so do a store and a working key:
- *   4  a lent store isn't 1072 bytes, or a lent working key isn't 272 (here the number is our choice)
+ *   4  a lent store isn't 1072 bytes, or a lent working key isn't 272, or a row to be loaded isn't 8 (here the number is our choice)
  *   1  n isn't 1, 2 or 4
  *   2  l isn't 2, 3 or 4
  *  15  the store has no such set, or it isn't loaded; there is no such publisher
@@ -46,10 +46,10 @@
 /* The library's version is 0.k.0, the landing being the kth in CHANGELOG.md from the first release, 0.1.0, on. */
 #define LABYRINTH_VERSION "0.13.0"
 
-/* No call uses more bytes of the stack. Measured on a painted stack were 29640, of a long run, the return address counted, what the caller
- * pushes not (x86_64 Linux, Debian 12, gcc 12.2, glibc 2.36, the archive as rattle-kit-5b makes it); the rest is room for a memcpy that uses
- * more. Where memcpy and memset are only bound when first called, the first call takes more, 3136 bytes when it was measured: link with
- * -z now, or call once where the stack is large. */
+/* No call uses more bytes of the stack. Measured on a painted stack were 34816, of a tag under a working key of another set than 0, the return
+ * address and what the caller pushes counted (x86_64 Linux, Debian 12, gcc 12.2, glibc 2.36, the archive as rattle-kit-5b makes it); the rest
+ * is room for a memcpy that uses more. Where memcpy and memset are only bound when first called, the first call takes more, 3136 bytes when
+ * it was measured: link with -z now, or call once where the stack is large. */
 #define LABYRINTH_STACK 40960
 
 #ifdef __cplusplus
@@ -95,8 +95,8 @@ uint8_t labyrinth_store_fresh(uint8_t *store, size_t store_len);
 uint8_t labyrinth_store_load(uint8_t *store, size_t store_len, uint64_t publisher, uint64_t set, const uint8_t *substitution, size_t substitution_len, const uint8_t *row, size_t row_len);
 uint8_t labyrinth_store_take(uint8_t *store, size_t store_len, uint64_t publisher, uint64_t set);
 
-/* The working key of a key, by a set. With set 0 it is the key that the functions above expand. The store is only read, and is looked into
- * only for another set than 0. */
+/* The working key of a key, by a set, which it then names. With set 0 it is the key that the functions above expand, whatever the store
+ * holds. */
 uint8_t labyrinth_expand(const uint8_t *store, size_t store_len, uint64_t n, uint64_t l, uint64_t set, const uint8_t *key, size_t key_len, uint8_t *working, size_t working_len);
 
 /* Blocks, runs and tags under a working key, by the set that it names and what the store holds there now. With a working key of set 0 they
