@@ -1,5 +1,5 @@
--- The code's own forms, which no reader has to believe: a word in a buffer of bytes, the least byte first, at any place, with or without room
--- for it. The code's way to `words` and `bytes` of forms.
+-- The code's own forms, which no reader has to believe, but whoever lends records to the library for C: a word in a buffer of bytes, the least byte
+-- first, at any place, with or without room for it. The code's way to `words` and `bytes` of forms.
 -- Assumes nothing.
 use Prim.Native.Nat.{ℕ, _+_}
 use mathlib.Core.Bool.{Bool}

@@ -1,5 +1,6 @@
 // The library as C sees it, under a working key: blocks, runs and tags by the set that the key names, out of a store. Both records are bytes that
-// the caller lends (crates/records). A key that names set 0 is used without reading the store. include/labyrinth.h declares these functions.
+// the caller lends (crates/records). A key that names set 0 is used without reading the store, but by the
+// matrix. include/labyrinth.h declares these functions.
 use cmac::Verified;
 ghost use mathlib.Core.Path.{_≡_};
 ghost use lib.ListN.{length};

@@ -14,9 +14,6 @@ use Rattle.sets.specs.Sets.{nowhere}
 
 -- ---- a working key, 272 bytes: n (8), its set (8), words 0 to 31 (8 each)
 
-abbrev pub keySize : ℕ
-keySize = 272
-
 -- the record that bytes are
 unfoldable pub keyIn : List ℕ → WorkingKey
 keyIn b = record { n = wordAt b 0; set = wordAt b 8; words = tabulate 32 (λ j. wordAt b (16 + 8 * j)) }
@@ -26,9 +23,6 @@ unfoldable pub keyBytes : WorkingKey → List ℕ
 keyBytes k = bytes 34 (k .n ∷ k .set ∷ k .words)
 
 -- ---- a store, 1072 bytes: sets 0 to 3, each a substitution (256) and a row (8); then what publishers 0 and 1 have taken (8 each)
-
-abbrev pub storeSize : ℕ
-storeSize = 1072
 
 -- the set whose bytes begin at a place
 unfoldable pub setAt : List ℕ → ℕ → Set

@@ -83,7 +83,7 @@ abbrev pub changed : ℕ → Store → Store → Changed
 changed zero new old = record { number = 0; store = new }
 changed (suc number) new old = record { number = suc number; store = old }
 
--- the other of 'a publisher or set number outside the store'
+-- the opposite of 'a publisher or set number outside the store'
 abbrev pub inStore : ℕ → ℕ → Bool
 inStore publisher i = ltb publisher 2 && ltb i 4
 
