@@ -116,7 +116,7 @@ class Store:
 
 
 def through_c(op, n, l, key, start, source, destination):
-    """A tag, made or to be verified, is the destination, and n is 1 there."""
+    """A tag, made or to be verified, is the destination, and n is 1 there, as it is for keys that are wrapped and unwrapped."""
     own = {
         "encipher": block(n, source, destination),
         "decipher": block(n, source, destination),
@@ -125,6 +125,8 @@ def through_c(op, n, l, key, start, source, destination):
         "ctr": ctr(n, start, source, destination),
         "cmac": tag(n, destination),
         "cmac_verify": tag(n, destination),
+        "wrap": wrapping(n, source, destination),
+        "unwrap": unwrapping(n, source, destination),
     }
     return expansion(n, l, key) or own[op]
 
