@@ -46,6 +46,9 @@ tests/documents.py || fail "the documents"
 # ---- the expected outputs are the archivists'
 tests/compare.sh || fail "the comparison with the archivists"
 
+# ---- the worked values of key wrapping, by the archivists' program
+tests/worked.py || fail "the worked values of key wrapping"
+
 # ---- the judge of rows, by determinants and by counting
 tests/judge.py || fail "the judge of rows"
 
