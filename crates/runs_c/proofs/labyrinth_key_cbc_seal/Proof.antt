@@ -6,20 +6,20 @@ use lib.ListN.{length}
 use borrow.Author.Needs.{needs}
 use Rattle.labyrinth.specs.Cipher.{Parts}
 use Rattle.labyrinth.specs.Keys.{E}
-use Rattle.modes.specs.Ctr.{ctr}
-use Rattle.modes.specs.Refusals.{ctrRefusal}
-use Rattle.modes.proofs.Refusals.{ctr-one}
+use Rattle.modes.specs.Cbc.{cbcSeal}
+use Rattle.modes.specs.Refusals.{cbcRefusal}
+use Rattle.modes.proofs.Refusals.{cbc-one}
 use Rattle.records.specs.Lent.{lentE, lentSize}
 use Rattle.records.proofs.Lent.{lent-refused, lent-named, lent-published}
-use Rattle.keys_c.proofs.labyrinth_key_ctr.Statement.{statement}
-use Rattle.keys_c.proofs.labyrinth_key_ctr.Tie as tie
+use Rattle.runs_c.proofs.labyrinth_key_cbc_seal.Statement.{statement}
+use Rattle.runs_c.proofs.labyrinth_key_cbc_seal.Tie as tie
 
 -- the operation's number by n, and its result by the parts, n and the words of a key
 abbrev number : tie.Start → ℕ → ℕ
-number s = let a = s .args in λ n. ctrRefusal n (length (a .start .now)) (length (a .src .now)) (length (a .dst .now))
+number s = let a = s .args in λ n. cbcRefusal n (length (a .start .now)) (length (a .src .now)) (length (a .dst .now))
 
 abbrev result : tie.Start → Parts → ℕ → List ℕ → List ℕ
-result s = let a = s .args in λ p n ws. ctr (E p n ws) (16 * n) (a .start .now) (a .q) (a .src .now)
+result s = let a = s .args in λ p n ws. cbcSeal (E p n ws) (16 * n) (a .start .now) (a .src .now)
 
 fit-requires : tie.Need-fit-requires
 fit-requires c κs = search needs
@@ -33,8 +33,8 @@ returns c =
 key-of-requires : tie.Need-key-of-requires
 key-of-requires c κs = search needs
 
-run-published-requires : tie.Need-run-published-requires
-run-published-requires c κs = search needs
+seal-published-requires : tie.Need-seal-published-requires
+seal-published-requires c κs = search needs
 
 same-length : tie.Need-same-length
 same-length c = search needs
@@ -46,13 +46,13 @@ returns-2 c =
     let key = p .before .before .before .before in
     let s = key .before .before .before .before .before .before .before .before in
     lent-published (s .args .store .now) (s .args .working .now) (number s) (result s) (s .args .dst .now) (key .before .before .fit .ensures) (key .before .if1 .left) (key .key-of .ensures)
-    (p .before .before .if2 .taken) (ctr-one _ (length (s .args .start .now)) (length (s .args .src .now)) (length (s .args .dst .now))) (p .run-published .ensures)
+    (p .before .before .if2 .taken) (cbc-one _ (length (s .args .start .now)) (length (s .args .src .now)) (length (s .args .dst .now))) (p .seal-published .ensures)
 
 store-of-requires : tie.Need-store-of-requires
 store-of-requires c κs = search needs
 
-run-requires : tie.Need-run-requires
-run-requires c κs = search needs
+seal-requires : tie.Need-seal-requires
+seal-requires c κs = search needs
 
 same-length-2 : tie.Need-same-length-2
 same-length-2 c = search needs
@@ -64,19 +64,19 @@ returns-3 c =
     let key = p .before .before .before .before .before in
     let s = key .before .before .before .before .before .before .before .before in
     lent-named (s .args .store .now) (s .args .working .now) (number s) (result s) (s .args .dst .now) (key .before .before .fit .ensures) (key .before .if1 .left) (key .key-of .ensures)
-    (p .before .before .store-of .ensures) (p .run .ensures)
+    (p .before .before .store-of .ensures) (p .seal .ensures)
 
-pub labyrinth-key-ctr-spec : {M : Type 1} → statement M
-labyrinth-key-ctr-spec =
+pub labyrinth-key-cbc-seal-spec : {M : Type 1} → statement M
+labyrinth-key-cbc-seal-spec =
     tie.close
     (tie.spec
     fit-requires
     returns
     key-of-requires
-    run-published-requires
+    seal-published-requires
     same-length
     returns-2
     store-of-requires
-    run-requires
+    seal-requires
     same-length-2
     returns-3)

@@ -7,8 +7,8 @@ use Rattle.cmac.proofs.Tags.{verification-number}
 use Rattle.one_shot.proofs.OneShot.{told-byte}
 use Rattle.records.specs.Lent.{lentNumber, lentE}
 use Rattle.records.proofs.Numbers.{records-refused, records-passed}
-use Rattle.keys_c.proofs.labyrinth_key_cmac_verify.Statement.{statement}
-use Rattle.keys_c.proofs.labyrinth_key_cmac_verify.Tie as tie
+use Rattle.tags_c.proofs.labyrinth_key_cmac_verify.Statement.{statement}
+use Rattle.tags_c.proofs.labyrinth_key_cmac_verify.Tie as tie
 
 fit-requires : tie.Need-fit-requires
 fit-requires c κs = search needs

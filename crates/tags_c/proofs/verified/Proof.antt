@@ -14,8 +14,8 @@ use Rattle.cmac.specs.Verification.{verification}
 use Rattle.cmac.proofs.Tags.{verified-published}
 use Rattle.records.specs.Records.{storeIn}
 use Rattle.records.specs.Lent.{lentE}
-use Rattle.keys_c.proofs.verified.Statement.{statement}
-use Rattle.keys_c.proofs.verified.Tie as tie
+use Rattle.tags_c.proofs.verified.Statement.{statement}
+use Rattle.tags_c.proofs.verified.Tie as tie
 
 -- the answer by a store and a key
 abbrev answer : tie.Start → Store → WorkingKey → Verified
