@@ -2,4 +2,5 @@ pub mod Values
 pub mod Demands
 pub mod Requests
 pub mod Stores
+pub mod Keys
 pub mod Operations

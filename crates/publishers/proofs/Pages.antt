@@ -102,11 +102,14 @@ expandedOf d (key e) = e
 expandedOf d (buffer r bs) = d
 expandedOf d (verdict v) = d
 
-answered : (n : ℕ) (is : Bool) (own : ℕ) (x before : List ℕ) {y : List ℕ} → left (underKey n is own) x before ≡ buffer 0 y → (own ≡ 0) × (x ≡ y)
+pub same-buffer : {r q : ℕ} {x y : List ℕ} → buffer r x ≡ buffer q y → (r ≡ q) × (x ≡ y)
 unfolding numberOf bytesOf
+same-buffer e = (ap numberOf e, ap bytesOf e)
+
+answered : (n : ℕ) (is : Bool) (own : ℕ) (x before : List ℕ) {y : List ℕ} → left (underKey n is own) x before ≡ buffer 0 y → (own ≡ 0) × (x ≡ y)
 answered n is own x before e =
-    let z : underKey n is own ≡ 0 = ap numberOf e in
-    (under-zero n is own z, sym (ap (λ (r : ℕ). outcome r x before) z) ∙ ap bytesOf e)
+    let z = same-buffer e in
+    (under-zero n is own (z .0), sym (ap (λ (r : ℕ). outcome r x before) (z .0)) ∙ z .1)
 
 pub blocks-come-back : BlocksComeBackIn
 unfolding answer used named
