@@ -3,4 +3,3 @@ pub mod Demands
 pub mod Requests
 pub mod Stores
 pub mod Keys
-pub mod Operations
