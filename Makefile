@@ -26,8 +26,9 @@ lib:
 	rt staticlib rows_c
 	rt staticlib stores_c
 	rt staticlib keys_c
+	rt staticlib wraps_c
 	mkdir -p target/dist
-	printf 'create target/dist/liblabyrinth.a\naddlib target/staticlib/liblabyrinth_c.a\naddlib target/staticlib/librows_c.a\naddlib target/staticlib/libstores_c.a\naddlib target/staticlib/libkeys_c.a\nsave\nend\n' | ar -M
+	printf 'create target/dist/liblabyrinth.a\naddlib target/staticlib/liblabyrinth_c.a\naddlib target/staticlib/librows_c.a\naddlib target/staticlib/libstores_c.a\naddlib target/staticlib/libkeys_c.a\naddlib target/staticlib/libwraps_c.a\nsave\nend\n' | ar -M
 	cp include/labyrinth.h target/dist/labyrinth.h
 
 example: lib
