@@ -35,7 +35,14 @@ fn count_into(a: &mut [u8], number: u8)
 }
 
 // Maps the block of two semiblocks: its first half goes to a, its second to r.
-fn map_halves(t: &[u64; 256], s: &[u8; 256], u: &[u8; 256], ks: &[u64; 80], a: &mut [u8], r: &mut [u8])
+fn map_halves(
+    t: &[u64; 256],
+    s: &[u8; 256],
+    u: &[u8; 256],
+    ks: &[u64; 80],
+    a: &mut [u8],
+    r: &mut [u8],
+)
     ghost { List ℕ → List ℕ }
     requires { λ m. ⌜ Gives m 1 (now t) (now s) (now u) (now ks) ⌝ }
     requires { λ m. ⌜ (length (now a) ≡ 8) × (length (now r) ≡ 8) ⌝ }
@@ -142,7 +149,14 @@ fn unwrap_round(
 }
 
 // W on A and the rest of a string.
-fn wrap_steps(t: &[u64; 256], s: &[u8; 256], u: &[u8; 256], ks: &[u64; 80], a: &mut [u8], r: &mut [u8])
+fn wrap_steps(
+    t: &[u64; 256],
+    s: &[u8; 256],
+    u: &[u8; 256],
+    ks: &[u64; 80],
+    a: &mut [u8],
+    r: &mut [u8],
+)
     ghost { List ℕ → List ℕ }
     requires { λ m. ⌜ Gives m 1 (now t) (now s) (now u) (now ks) ⌝ }
     requires { λ m. ⌜ (length (now a) ≡ 8) × (length (now r) % 8 ≡ 0) × (length (now r) ≤ 128) ⌝ }
@@ -159,7 +173,14 @@ fn wrap_steps(t: &[u64; 256], s: &[u8; 256], u: &[u8; 256], ks: &[u64; 80], a: &
 }
 
 // The inverse of W on A and the rest of a string: the same rounds from the last to the first.
-fn unwrap_steps(t: &[u64; 256], s: &[u8; 256], u: &[u8; 256], ks: &[u64; 80], a: &mut [u8], r: &mut [u8])
+fn unwrap_steps(
+    t: &[u64; 256],
+    s: &[u8; 256],
+    u: &[u8; 256],
+    ks: &[u64; 80],
+    a: &mut [u8],
+    r: &mut [u8],
+)
     ghost { List ℕ → List ℕ }
     requires { λ m. ⌜ Gives m 1 (now t) (now s) (now u) (now ks) ⌝ }
     requires { λ m. ⌜ (length (now a) ≡ 8) × (length (now r) % 8 ≡ 0) × (length (now r) ≤ 128) ⌝ }
@@ -176,7 +197,14 @@ fn unwrap_steps(t: &[u64; 256], s: &[u8; 256], u: &[u8; 256], ks: &[u64; 80], a:
 }
 
 // Wraps a key: it is laid behind the place of A, and the steps work there.
-fn wrap_into(t: &[u64; 256], s: &[u8; 256], u: &[u8; 256], ks: &[u64; 80], src: &[u8], dst: &mut [u8])
+fn wrap_into(
+    t: &[u64; 256],
+    s: &[u8; 256],
+    u: &[u8; 256],
+    ks: &[u64; 80],
+    src: &[u8],
+    dst: &mut [u8],
+)
     ghost { List ℕ → List ℕ }
     requires { λ m. ⌜ Gives m 1 (now t) (now s) (now u) (now ks) ⌝ }
     requires { λ m. ⌜ (length (now src) % 8 ≡ 0) × (length (now src) ≤ 128) × (length (now dst) ≡ length (now src) + 8) ⌝ }

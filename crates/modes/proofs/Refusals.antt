@@ -1,6 +1,6 @@
 -- What the refusals of the runs, the tags and wrapped keys say in plain terms: which number when, in their order.
 -- Assumes nothing.
-use mathlib.Core.Path.{_≡_, refl, sym, _∙_}
+use mathlib.Core.Path.{_≡_, refl, sym, ap, _∙_}
 use mathlib.Core.Bool.{Bool, true, false, _&&_}
 use mathlib.Core.Logic.{inl, _↔_}
 use Prim.Native.Nat.{ℕ, _+_, _*_, _%_, _≤_, _<_}
@@ -158,13 +158,25 @@ module _ (low top n source shorter longer further : ℕ) where
         go true false c e = e
         go false b c e = e
 
-    pub keys-passed : r ≡ 0 → Sized low top source × (unless (eqb longer (shorter + 8)) 5 further ≡ unless (legal n) 1 (keyLengths low top n source shorter longer further))
-    unfolding keyLengths
-    keys-passed z =
-        let a = unless-zero (legal n) 0 _ (sym e ∙ z) in
-        let b = unless-zero (eqb n 1) 11 _ (a .1) in
-        let c = unless-zero (sized low top source) 16 _ (b .1) in
-        (sized-iff low top source .0 (c .0), rw (a .0, b .0, c .0) refl)
+    module _ (z : r ≡ 0) where
+      pub keys-sized : Sized low top source
+      keys-sized =
+          let a = unless-zero (legal n) 0 _ (sym e ∙ z) in
+          let b = unless-zero (eqb n 1) 11 _ (a .1) in
+          sized-iff low top source .0 (unless-zero (sized low top source) 16 0 (b .1) .0)
+
+      keys-left : unless (eqb longer (shorter + 8)) 5 further ≡ unless (legal n) 1 (keyLengths low top n source shorter longer further)
+      unfolding keyLengths
+      keys-left =
+          let a = unless-zero (legal n) 0 _ (sym e ∙ z) in
+          let b = unless-zero (eqb n 1) 11 _ (a .1) in
+          rw (a .0, b .0, sized-iff low top source .1 keys-sized) refl
+
+      pub keys-other : (longer ≡ shorter + 8 → ⊥) → 5 ≡ unless (legal n) 1 (keyLengths low top n source shorter longer further)
+      keys-other h = ap (λ (b : Bool). unless b 5 further) (sym (ne-eqb longer (shorter + 8) h)) ∙ keys-left
+
+      pub keys-fit : longer ≡ shorter + 8 → further ≡ unless (legal n) 1 (keyLengths low top n source shorter longer further)
+      keys-fit h = ap (λ (b : Bool). unless b 5 further) (sym (eq-eqb longer (shorter + 8) h)) ∙ keys-left
 
 -- wrapping: 1 unless n is 1, 2 or 4, then 12 unless it is 1, then 17 unless the source has 16 to 128 bytes in steps of 8, then 5 unless the destination
 -- has eight more, else 0
@@ -188,6 +200,15 @@ unfolding unwrapRefusal
 unwrap-taken n s d right e z =
     let h = keys-taken 24 136 n s d s _ e z in
     (h .0, unless-zero right 17 0 (h .1) .0)
+
+-- what the check value is matters only where n is legal
+pub unwrap-cong : (n s d : ℕ) (b c : Bool) → (Size n → b ≡ c) → unwrapRefusal n s d b ≡ unwrapRefusal n s d c
+unfolding unwrapRefusal
+unwrap-cong n s d b c h = go (legal n) (λ e. h (legal-size-of n e))
+  where
+    go : (a : Bool) → (a ≡ true → b ≡ c) → unless a 1 (keyLengths 24 136 n s d s (unless b 18 0)) ≡ unless a 1 (keyLengths 24 136 n s d s (unless c 18 0))
+    go true h = ap (λ (x : Bool). keyLengths 24 136 n s d s (unless x 18 0)) (h refl)
+    go false h = refl
 
 -- a check value that is yet to be seen: a refusal is the operation's, and after none 18 is all that is left
 module _ (n s d : ℕ) (right : Bool) {r : ℕ} (e : r ≡ unwrapRefusal n s d true) where

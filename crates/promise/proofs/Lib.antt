@@ -2,4 +2,3 @@ pub mod Values
 pub mod Demands
 pub mod Requests
 pub mod Stores
-pub mod Operations

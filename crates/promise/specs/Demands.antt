@@ -110,7 +110,7 @@ AnswersTape tape answer before after =
 -- ---- Demand 2
 
 -- What an operation answers: its number, and what a buffer held before and holds after. Of each operation in the code it is proved that its
--- contract says this, for all arguments, and that the function meets its contract (proofs/Operations).
+-- contract says this, for all arguments, and that the function meets its contract (crate ties).
 
 -- "Expansion, enciphering and deciphering give, bit for bit, the Labyrinth of the article (source document 000) at blocks of 128, 256 and 512
 -- bits with three key lengths each."
@@ -209,7 +209,7 @@ abbrev pub AlikeStates : Tape → Tape → Type 0
 AlikeStates t u = SameUsed (t .key) (u .key) × (t .keyed ≡ u .keyed) × (t .ended ≡ u .ended)
 
 -- Said of what two calls of an operation answer. Call says of arguments, a returned value and the arguments' ends that they are a call's, as the
--- operation's contract tells (proofs/Operations); key is the working key among the arguments, given what else the answer may depend on, left what
+-- operation's contract tells (crate ties); key is the working key among the arguments, given what else the answer may depend on, left what
 -- the call leaves in the destination. With keys alike and the rest given alike, the calls return the same and leave the same
 abbrev pub OfUsedWords : {A Z B G L : Type 0} → (A → Z → B → Type 0) → (A → WorkingKey) → (A → G) → (B → L) → Type 0
 OfUsedWords {A} {Z} {B} Call key given left =

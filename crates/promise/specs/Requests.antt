@@ -384,7 +384,7 @@ abbrev pub VerifiesTagIn : Store → WorkingKey → List ℕ → List ℕ → Ve
 VerifiesTagIn store k message given answer =
     answer ≡ verification (E (partsIn store (k .set)) (k .n) (k .words)) message given (underKey (k .n) (loaded store (k .set)) (cmacRefusal (k .n) (length given)))
 
--- "With 0 named, all former guarantees read as before": with `k .set ≡ 0` each of these is what Demands and Job 1 have (proofs/Operations).
+-- "With 0 named, all former guarantees read as before": with `k .set ≡ 0` each of these is what Demands and Job 1 have (crate ties).
 
 -- "It refuses .. use of an unloaded set, with 15 .. block operations, runs and tags check 15 right after 1, expansion right after 2." In plain terms and
 -- in order, with what a refusal leaves and returns: `Loaded store i`
