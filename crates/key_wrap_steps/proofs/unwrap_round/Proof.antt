@@ -9,9 +9,9 @@ use borrow.Author.Needs.{needs}
 use Rattle.forms.proofs.Parts.{part-length}
 use Rattle.labyrinth.specs.Lent.{lent}
 use Rattle.modes.specs.KeyWrap.{unwrapSteps}
-use Rattle.key_wrap_lent.proofs.Rounds.{Unwrapping, unwrap-first, unwrap-room, unwrap-count, unwrap-next, unwrap-last}
-use Rattle.key_wrap_lent.proofs.unwrap_round.Statement.{statement}
-use Rattle.key_wrap_lent.proofs.unwrap_round.Tie as tie
+use Rattle.key_wrap_steps.proofs.Rounds.{Unwrapping, unwrap-first, unwrap-room, unwrap-count, unwrap-next, unwrap-last}
+use Rattle.key_wrap_steps.proofs.unwrap_round.Statement.{statement}
+use Rattle.key_wrap_steps.proofs.unwrap_round.Tie as tie
 
 abbrev Inv-loop : tie.InvT-loop
 Inv-loop t s u ks a₀ r₀ left number₀ end₀ a r number end = Unwrapping (lent 1 t s u ks) (unwrapSteps (lent 1 t s u ks) left (a₀ ++ r₀)) left (length r₀) a r number end

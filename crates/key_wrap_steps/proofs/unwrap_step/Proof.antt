@@ -6,8 +6,8 @@ use Prim.Native.Nat.{ℕ}
 use borrow.Author.Needs.{needs}
 use Rattle.labyrinth.specs.Lent.{lent}
 use Rattle.modes.specs.KeyWrap.{MSB64, LSB64}
-use Rattle.key_wrap_lent.proofs.unwrap_step.Statement.{statement}
-use Rattle.key_wrap_lent.proofs.unwrap_step.Tie as tie
+use Rattle.key_wrap_steps.proofs.unwrap_step.Statement.{statement}
+use Rattle.key_wrap_steps.proofs.unwrap_step.Tie as tie
 
 count-into-requires : tie.Need-count-into-requires
 count-into-requires c κs = search needs

@@ -5,8 +5,8 @@ use mathlib.Core.List.{List}
 use Prim.Native.Nat.{ℕ}
 use borrow.Author.Needs.{needs}
 use Rattle.forms.specs.Strings.{xorBytes, string}
-use Rattle.key_wrap_lent.proofs.wrap_step.Statement.{statement}
-use Rattle.key_wrap_lent.proofs.wrap_step.Tie as tie
+use Rattle.key_wrap_steps.proofs.wrap_step.Statement.{statement}
+use Rattle.key_wrap_steps.proofs.wrap_step.Tie as tie
 
 map-halves-requires : tie.Need-map-halves-requires
 map-halves-requires c κs = search needs

@@ -13,7 +13,7 @@ use Rattle.forms.specs.Strings.{xorBytes, string}
 use Rattle.modes.specs.KeyWrap.{steps, wrapStep, wrapSteps, W, unwrapStep, unwrapSteps, W⁻¹}
 use Rattle.forms.proofs.Parts.{part-length, part-kept}
 use Rattle.modes.proofs.KeyWrap.{wrapStep-parts, unwrapStep-parts}
-use Rattle.key_wrap_lent.specs.Rounds.{wrapMore}
+use Rattle.key_wrap_steps.specs.Steps.{wrapMore}
 
 -- m steps more, after t
 pub wrapMore-steps : (e : List ℕ → List ℕ) (t m : ℕ) (x : List ℕ) → wrapMore e t m (wrapSteps e t x) ≡ wrapSteps e (t + m) x

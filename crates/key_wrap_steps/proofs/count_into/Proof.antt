@@ -2,8 +2,8 @@
 -- Assumes nothing.
 use borrow.Author.Needs.{needs}
 use Rattle.forms.proofs.Strings.{xor-last}
-use Rattle.key_wrap_lent.proofs.count_into.Statement.{statement}
-use Rattle.key_wrap_lent.proofs.count_into.Tie as tie
+use Rattle.key_wrap_steps.proofs.count_into.Statement.{statement}
+use Rattle.key_wrap_steps.proofs.count_into.Tie as tie
 
 slice-read-a : tie.Need-slice-read-a
 slice-read-a c = search needs

@@ -7,9 +7,9 @@ use lib.ListN.{length}
 use borrow.Author.Needs.{needs}
 use Rattle.forms.proofs.Parts.{part-length}
 use Rattle.labyrinth.specs.Lent.{lent}
-use Rattle.key_wrap_lent.proofs.Rounds.{Wrapping, wrap-first, wrap-room, wrap-next, wrap-last}
-use Rattle.key_wrap_lent.proofs.wrap_round.Statement.{statement}
-use Rattle.key_wrap_lent.proofs.wrap_round.Tie as tie
+use Rattle.key_wrap_steps.proofs.Rounds.{Wrapping, wrap-first, wrap-room, wrap-next, wrap-last}
+use Rattle.key_wrap_steps.proofs.wrap_round.Statement.{statement}
+use Rattle.key_wrap_steps.proofs.wrap_round.Tie as tie
 
 abbrev Inv-loop : tie.InvT-loop
 Inv-loop t s u ks a₀ r₀ done number₀ at₀ a r number at = Wrapping (lent 1 t s u ks) (a₀ ++ r₀) done (length r₀) a r number at

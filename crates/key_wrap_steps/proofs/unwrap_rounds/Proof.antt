@@ -7,9 +7,9 @@ use lib.ListN.{length}
 use borrow.Author.Needs.{needs}
 use Rattle.labyrinth.specs.Lent.{lent}
 use Rattle.modes.specs.KeyWrap.{W⁻¹}
-use Rattle.key_wrap_lent.proofs.Rounds.{Unwrapped, unwrapped-first, unwrapped-room, unwrapped-next, unwrapped-last}
-use Rattle.key_wrap_lent.proofs.unwrap_steps.Statement.{statement}
-use Rattle.key_wrap_lent.proofs.unwrap_steps.Tie as tie
+use Rattle.key_wrap_steps.proofs.Rounds.{Unwrapped, unwrapped-first, unwrapped-room, unwrapped-next, unwrapped-last}
+use Rattle.key_wrap_steps.proofs.unwrap_rounds.Statement.{statement}
+use Rattle.key_wrap_steps.proofs.unwrap_rounds.Tie as tie
 
 abbrev Inv-loop : tie.InvT-loop
 Inv-loop t s u ks a₀ r₀ count left₀ round₀ a r left round = Unwrapped (lent 1 t s u ks) (W⁻¹ (lent 1 t s u ks) (a₀ ++ r₀)) (length r₀) a r left round
@@ -56,8 +56,8 @@ same-length-2 c = search needs
 returns : tie.Need-returns Inv-loop μ-loop
 returns c = unwrapped-last _ _ _ _ _ _ _ (c .before .loop .inv) (c .loop-test .left)
 
-pub unwrap-steps-spec : {M : Type 1} → statement M
-unwrap-steps-spec =
+pub unwrap-rounds-spec : {M : Type 1} → statement M
+unwrap-rounds-spec =
     tie.close
     (tie.spec
     Inv-loop

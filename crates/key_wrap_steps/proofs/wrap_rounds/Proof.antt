@@ -6,9 +6,9 @@ use native.Mathlib.Omega.{arith}
 use lib.ListN.{length}
 use borrow.Author.Needs.{needs}
 use Rattle.labyrinth.specs.Lent.{lent}
-use Rattle.key_wrap_lent.proofs.Rounds.{Wrapped, wrapped-first, wrapped-room, wrapped-next, wrapped-last}
-use Rattle.key_wrap_lent.proofs.wrap_steps.Statement.{statement}
-use Rattle.key_wrap_lent.proofs.wrap_steps.Tie as tie
+use Rattle.key_wrap_steps.proofs.Rounds.{Wrapped, wrapped-first, wrapped-room, wrapped-next, wrapped-last}
+use Rattle.key_wrap_steps.proofs.wrap_rounds.Statement.{statement}
+use Rattle.key_wrap_steps.proofs.wrap_rounds.Tie as tie
 
 abbrev Inv-loop : tie.InvT-loop
 Inv-loop t s u ks a₀ r₀ count done₀ round₀ a r done round = Wrapped (lent 1 t s u ks) (a₀ ++ r₀) (length r₀) a r done round
@@ -53,8 +53,8 @@ same-length-2 c = search needs
 returns : tie.Need-returns Inv-loop μ-loop
 returns c = let s = c .before .before .before .before in wrapped-last _ (s .args .a .now) (s .args .r .now) _ _ _ _ (s .pre .0) (c .before .loop .inv) (c .loop-test .left)
 
-pub wrap-steps-spec : {M : Type 1} → statement M
-wrap-steps-spec =
+pub wrap-rounds-spec : {M : Type 1} → statement M
+wrap-rounds-spec =
     tie.close
     (tie.spec
     Inv-loop

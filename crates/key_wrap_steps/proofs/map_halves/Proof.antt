@@ -9,9 +9,9 @@ use borrow.Author.Needs.{needs}
 use Rattle.labyrinth.specs.Lent.{lent}
 use Rattle.labyrinth.proofs.Sizes.{size-one}
 use Rattle.labyrinth.proofs.Lent.{table-lendable, lent-block, lent-length}
-use Rattle.key_wrap_lent.proofs.Halves.{laid, first-half, second-half}
-use Rattle.key_wrap_lent.proofs.map_halves.Statement.{statement}
-use Rattle.key_wrap_lent.proofs.map_halves.Tie as tie
+use Rattle.key_wrap_steps.proofs.Halves.{laid, first-half, second-half}
+use Rattle.key_wrap_steps.proofs.map_halves.Statement.{statement}
+use Rattle.key_wrap_steps.proofs.map_halves.Tie as tie
 
 slice-aggregate-copy-into : tie.Need-slice-aggregate-copy-into
 slice-aggregate-copy-into c = search needs
