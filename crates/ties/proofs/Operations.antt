@@ -45,7 +45,7 @@ use Rattle.cmac.proofs.verify as verify
 use Rattle.round_trips.proofs.tag_made_and_verified as tag-made-and-verified
 use Rattle.round_trips.proofs.cbc_there_and_back as cbc-there-and-back
 use Rattle.round_trips.proofs.ctr_there_and_back as ctr-there-and-back
-use Rattle.round_trips.proofs.word_converted as word-converted
+use Rattle.conversions.proofs.word_converted as word-converted
 use Rattle.rows.proofs.mix as mix-word
 use Rattle.rows.proofs.make_table as make-table
 use Rattle.rows.proofs.product as product-of-rows
