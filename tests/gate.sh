@@ -18,8 +18,9 @@ failures=0
 fail() { echo "gate: FAILED: $*"; failures=$((failures + 1)); }
 
 # ---- what a check writes for the moment, some thousands of files of 260 MB, goes to memory where there is room for it and a program can be run from there
+moment=${TMPDIR:-/tmp}
 if [ -z "${TMPDIR:-}" ] && [ "$(df -Pm /dev/shm 2>/dev/null | awk 'END { print $4 + 0 }')" -ge 2048 ] && ! grep -q '^[^ ]* /dev/shm [^ ]* [^ ]*noexec' /proc/mounts; then
-    export TMPDIR=/dev/shm
+    moment=/dev/shm
 fi
 
 # ---- must-fail edits: each can be applied and is named in docs/CONTRACTS.md, and each name there is an edit. Told before the long part
@@ -27,7 +28,7 @@ tests/edit_names.py || { echo "gate: FAILED: the edits and their names"; exit 1;
 
 # ---- rt ci: proofs, must-fail edits, programs
 began=$(date +%s)
-rt ci 2>&1 | tee "$work/ci"
+TMPDIR=$moment rt ci 2>&1 | tee "$work/ci"
 [ "${PIPESTATUS[0]}" -eq 0 ] || fail "rt ci"
 last=$(tail -n 1 "$work/ci")
 [[ $last =~ ^[0-9]+\ passed,\ 0\ failed$ ]] || fail "rt ci's last line: $last"
@@ -45,7 +46,7 @@ tell() { # NAME WHAT: prints the log, and counts a failure
     [ "$(cat "$work/$1.status")" = 0 ] || fail "$2"
 }
 layout() { rt fmt --check >"$work/fmt" 2>&1 || { cat "$work/fmt"; return 1; }; }
-library() { make -s lib >"$work/lib" 2>&1 || { tail -n 20 "$work/lib"; return 1; }; }
+library() { TMPDIR=$moment make -s lib >"$work/lib" 2>&1 || { tail -n 20 "$work/lib"; return 1; }; }
 archivists() { cd tests/archivists && sha256sum --quiet --strict -c SHA256SUMS; }
 
 check library library &

@@ -53,7 +53,7 @@ use Rattle.modes.proofs.Used.{tag-used}
 use Rattle.cmac.specs.declared.Verified.{Verified}
 use Rattle.cmac.specs.Verification.{verification}
 use Rattle.cmac.proofs.Tags.{verification-number, refused-no}
-use Rattle.round_trips.proofs.Rows.{converted}
+use Rattle.conversions.proofs.Rows.{converted}
 use Rattle.operands.specs.Operands.{zeros}
 use Rattle.tape_rules.specs.Steps.{keyRefusal, setKey, mapRefusal, mapBlock, mixWord, command, step}
 use Rattle.tape_rules.specs.Plain.{UnknownCommand}

@@ -51,9 +51,9 @@ use Rattle.key_wrap.proofs.unwrap as unwrap
 use Rattle.round_trips.proofs.tag_made_and_verified as tag-made-and-verified
 use Rattle.round_trips.proofs.cbc_there_and_back as cbc-there-and-back
 use Rattle.round_trips.proofs.ctr_there_and_back as ctr-there-and-back
-use Rattle.round_trips.proofs.word_converted as word-converted
 use Rattle.wrapped_trips.proofs.key_wrapped_and_unwrapped as key-wrapped-and-unwrapped
 use Rattle.wrapped_trips.proofs.key_unwrapped_and_wrapped as key-unwrapped-and-wrapped
+use Rattle.conversions.proofs.word_converted as word-converted
 use Rattle.rows.proofs.mix as mix-word
 use Rattle.rows.proofs.make_table as make-table
 use Rattle.rows.proofs.product as product-of-rows

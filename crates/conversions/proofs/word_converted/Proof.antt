@@ -10,10 +10,10 @@ use Rattle.rows.specs.declared.Inverted.{Inverted}
 use Rattle.rows.specs.Rows.{rowRefusal, mixed}
 use Rattle.rows.specs.Inverse.{inverted}
 use Rattle.rows.proofs.Ring.{given-row}
-use Rattle.round_trips.proofs.Rows.{converted}
+use Rattle.conversions.proofs.Rows.{converted}
 use borrow.Author.Needs.{needs}
-use Rattle.round_trips.proofs.word_converted.Statement.{statement}
-use Rattle.round_trips.proofs.word_converted.Tie as tie
+use Rattle.conversions.proofs.word_converted.Statement.{statement}
+use Rattle.conversions.proofs.word_converted.Tie as tie
 
 inverse-requires : tie.Need-inverse-requires
 inverse-requires c κs = search needs
