@@ -20,7 +20,7 @@ use Rattle.labyrinth.proofs.Refusals.{under-zero}
 use Rattle.modes.specs.KeyWrap.{ICV1, wrapped, authentic, unwrapped}
 use Rattle.modes.specs.Refusals.{wrapRefusal, unwrapRefusal}
 use Rattle.modes.proofs.Maps.{Keeps, Undone, keeps-one, keeps-one-U}
-use Rattle.modes.proofs.KeyWrap.{authentic-iff, length-wrapped, bytes-unwrapped, wrapped-authentic, unwrapped-wrapped, wraps-iff}
+use Rattle.modes.proofs.KeyWrap.{authentic-iff, length-wrapped, bytes-unwrapped, wrapped-authentic, unwrapped-wrapped, unwrapped-once, wraps-iff}
 use Rattle.modes.proofs.Refusals.{wrap-number, wrap-taken, wrap-one, unwrap-number, unwrap-taken, unwrap-one}
 use Rattle.modes.proofs.Again.{unwrap-again}
 use Rattle.modes.proofs.Used.{wrapped-used, authentic-used, unwrapped-used}
@@ -31,7 +31,7 @@ use Rattle.publishers.specs.Calls.{uses, buffer, left, wraps, unwraps, named, u
 use Rattle.publishers.specs.Pages.{Bytes, Words, SameSet}
 use Rattle.publishers.proofs.Pages.{zero-same, same-parts, same-buffer, keys-yield, expands-in}
 use Rattle.promise.specs.Demands.{ComesBack}
-use Rattle.promise.specs.Requests.{UnderKey, AnswersUse, WrapsKey, UnwrapsKey, WrapsKeyIn, UnwrapsKeyIn, RightValue, WrapsTaken, UnwrapsTaken, AnswersWrapping, AnswersUnwrapping, AnswersWrappingIn, AnswersUnwrappingIn, MapsBlocks, Undoes, UnwrapsWrapped, KeyUnwraps, KeyTravels, WrappedFrom, AcceptsWrapped, SentBy, AcceptsSent, KeyWrapsAgain, OneSource, KeyComesBackIn}
+use Rattle.promise.specs.Requests.{UnderKey, AnswersUse, WrapsKey, UnwrapsKey, WrapsKeyIn, UnwrapsKeyIn, RightValue, WrapsTaken, UnwrapsTaken, AnswersWrapping, AnswersUnwrapping, AnswersWrappingIn, AnswersUnwrappingIn, MapsBlocks, Undoes, UnwrapsWrapped, KeyUnwraps, KeyTravels, WrappedFrom, AcceptsWrapped, SentBy, AcceptsSent, KeyWrapsAgain, UnwrapsOnce, OneSource, KeyComesBackIn}
 use Rattle.promise.proofs.Demands.{kept, UnderUsed, under-alike, under-used}
 use Rattle.promise.proofs.Stores.{at-zero, both-at-zero, under, left-is, expands-as}
 
@@ -126,6 +126,9 @@ accepts-wrapped e u ke ku oe ou c l b =
       λ r. let w = h .0 (right-iff u c .1 r) in record { key = w .key; long = w .long; small = w .small; made = w .made },
       λ w. right-iff u c .0 (h .1 (record { key = w .key; long = w .long; small = w .small; made = w .made })),
     )
+
+pub unwraps-once : UnwrapsOnce
+unwraps-once e u k o c d lc ld bc bd rc rd q = unwrapped-once e u (keeps k) (undone o) c d lc ld bc bd (right-iff u c .1 rc) (right-iff u d .1 rd) q
 
 -- ---- over two calls
 

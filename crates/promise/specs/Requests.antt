@@ -598,11 +598,16 @@ AcceptsSent =
     (s t : Store) (k : WorkingKey) (c room after : List ℕ) (number : ℕ) → SameSet (k .set) s t → Words (k .words) → Bytes c
     → length c ≡ length room + 8 → UnwrapsKeyIn t k c number room after → (number ≡ 0) ↔ SentBy s k c
 
--- so what was unwrapped, wrapped again, is what it was, and two different sources are never unwrapped to one key
+-- so what was unwrapped, wrapped again, is what it was; and two different sources are never unwrapped to one key, of the definitions and of the operations
 abbrev pub KeyWrapsAgain : Type 0
 KeyWrapsAgain =
     (s t : Store) (k : WorkingKey) (c before key room after : List ℕ) (number : ℕ) → SameSet (k .set) s t → Words (k .words) → Bytes c
     → UnwrapsKeyIn s k c 0 before key → length room ≡ length c → WrapsKeyIn t k key number room after → (number ≡ 0) × (after ≡ c)
+
+abbrev pub UnwrapsOnce : Type 0
+UnwrapsOnce =
+    (e u : List ℕ → List ℕ) → MapsBlocks u → Undoes e u → (c d : List ℕ) → 16 ≤ length c → 16 ≤ length d → Bytes c → Bytes d
+    → RightValue u c → RightValue u d → unwrapped u c ≡ unwrapped u d → c ≡ d
 
 abbrev pub OneSource : Type 0
 OneSource =
