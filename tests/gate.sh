@@ -17,58 +17,97 @@ trap 'rm -rf "$work"' EXIT
 failures=0
 fail() { echo "gate: FAILED: $*"; failures=$((failures + 1)); }
 
+# ---- what a check writes for the moment, some thousands of files of 260 MB, goes to memory where there is room for it and a program can be run from there
+moment=${TMPDIR:-/tmp}
+if [ -z "${TMPDIR:-}" ] && [ "$(df -Pm /dev/shm 2>/dev/null | awk 'END { print $4 + 0 }')" -ge 2048 ] && ! grep -q '^[^ ]* /dev/shm [^ ]* [^ ]*noexec' /proc/mounts; then
+    moment=/dev/shm
+fi
+
 # ---- must-fail edits: each can be applied and is named in docs/CONTRACTS.md, and each name there is an edit. Told before the long part
 tests/edit_names.py || { echo "gate: FAILED: the edits and their names"; exit 1; }
 
 # ---- rt ci: proofs, must-fail edits, programs
 began=$(date +%s)
-rt ci 2>&1 | tee "$work/ci"
+TMPDIR=$moment rt ci 2>&1 | tee "$work/ci"
 [ "${PIPESTATUS[0]}" -eq 0 ] || fail "rt ci"
 last=$(tail -n 1 "$work/ci")
 [[ $last =~ ^[0-9]+\ passed,\ 0\ failed$ ]] || fail "rt ci's last line: $last"
 echo "gate: rt ci took $(($(date +%s) - began)) s"
 
+# ---- every other check on what rt ci built. They run two at a time, each with a log of its own, and the judge of rows, which is timed, alone. Then the logs are printed
+check() { # NAME COMMAND..: runs it; its log and its status are kept
+    local name=$1
+    shift
+    "$@" >"$work/$name.log" 2>&1
+    echo $? >"$work/$name.status"
+}
+tell() { # NAME WHAT: prints the log, and counts a failure
+    cat "$work/$1.log"
+    [ "$(cat "$work/$1.status")" = 0 ] || fail "$2"
+}
+layout() { rt fmt --check >"$work/fmt" 2>&1 || { cat "$work/fmt"; return 1; }; }
+library() { TMPDIR=$moment make -s lib >"$work/lib" 2>&1 || { tail -n 20 "$work/lib"; return 1; }; }
+archivists() { cd tests/archivists && sha256sum --quiet --strict -c SHA256SUMS; }
+
+check library library &
+check layout layout
+check must_fail tests/must_fail.py
+check axioms tests/axioms.py
+check documents tests/documents.py
+(check archivists archivists)
+check compare tests/compare.sh
+check tapes tests/tapes.py
+wait
+check judge tests/judge.py
+if [ -n "$rust" ]; then check rust tests/rust.sh; fi &
+check c_interface tests/c_interface.sh
+check compare_c tests/compare_c.py --short
+check stores tests/stores.py
+check paper tests/paper.py
+check opener tests/opener_test.py
+wait
+
 # ---- the layout
-rt fmt --check >"$work/fmt" 2>&1 || { cat "$work/fmt"; fail "rt fmt --check"; }
+tell layout "rt fmt --check"
 
 # ---- must-fail edits: each was refused because a fact no longer holds
-tests/must_fail.py || fail "must-fail edits"
+tell must_fail "must-fail edits"
 
 # ---- library crates assume nothing
-tests/axioms.py || fail "assumptions"
+tell axioms "assumptions"
 
 # ---- the documents name what is in the tree, and the tree's definitions and operations are in them
-tests/documents.py || fail "the documents"
+tell documents "the documents"
 
 # ---- the archivists' program is as it was brought
-(cd tests/archivists && sha256sum --quiet --strict -c SHA256SUMS) || fail "tests/archivists was altered"
+tell archivists "tests/archivists was altered"
 
 # ---- the expected outputs are the archivists'
-tests/compare.sh || fail "the comparison with the archivists"
+tell compare "the comparison with the archivists"
 
 # ---- the worked values of key wrapping, by the archivists' program
 tests/worked.py || fail "the worked values of key wrapping"
 
 # ---- the judge of rows, by determinants and by counting
-tests/judge.py || fail "the judge of rows"
+tell judge "the judge of rows"
 
 # ---- the tape program and the tools for people, on tapes made from the archivists' vectors and document 01
-tests/tapes.py || fail "the tapes"
+tell tapes "the tapes"
 
 # ---- the library as C, Rust and people see it
-make -s lib >"$work/lib" 2>&1 || { tail -n 20 "$work/lib"; fail "make lib"; }
-tests/c_interface.sh || fail "the C interface"
-tests/compare_c.py --short || fail "the comparison through the C interface"
-tests/stores.py || fail "the store and keys that name a set"
+tell library "make lib"
+tell c_interface "the C interface"
+tell compare_c "the comparison through the C interface"
+tell stores "the store and keys that name a set"
 if [ -n "$rust" ]; then
-    tests/rust.sh || fail "the Rust crate and the command"
+    tell rust "the Rust crate and the command"
 else
     echo "gate: WITHOUT_RUST=1: the Rust crate and the command were not tried"
 fi
 
 # ---- the paper for the successor
-tests/paper.py || fail "the paper for the successor"
-tests/opener_test.py || fail "the opener and the verifier written from the paper"
+tell paper "the paper for the successor"
+tell opener "the opener and the verifier written from the paper"
 
 # ---- where rt ci's minutes went
 tests/dearest.py "$work/ci" || fail "the dearest checks and edits"

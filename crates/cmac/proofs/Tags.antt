@@ -26,14 +26,6 @@ use Rattle.cmac.specs.declared.Verified.{Verified}
 use Rattle.cmac.specs.Verification.{verification}
 
 module _ (e : List ℕ → List ℕ) (m : List ℕ) where
-  -- copied to a destination of at most 16 bytes, it is the tag
-  pub tag-copied : Keeps 16 e → (dst : List ℕ) {last r : List ℕ} → length dst ≤ 16 → last ≡ mac e m → r ≡ take (length dst) last ++ drop (length last) dst
-      → r ≡ tag e (length dst) m
-  unfolding tag
-  tag-copied k dst {last} h p w =
-      w ∙ ap₂ (λ (x : List ℕ) (y : List ℕ). take (length dst) x ++ y) p (drop-of-length-le dst {i = length last} (omega (arith, ap length p, length-mac e k m)))
-      ∙ append-nil (take (length dst) (mac e m))
-
   -- a refusal is a no
   pub refused-no : (given : List ℕ) (n : ℕ) {r : ℕ} → r ≡ n → (r ≡ 0 → ⊥) → record { number = r; yes = false } ≡ verification e m given n
   unfolding verification

@@ -3,13 +3,17 @@
 use mathlib.Core.Path.{_≡_, refl, sym, ap, ap₂, _∙_}
 use mathlib.Core.Bool.{Bool}
 use mathlib.Core.List.{List, [], _++_, append-nil}
-use Prim.Native.Nat.{ℕ, _+_, _-_, _≤_}
+use Prim.Native.Nat.{ℕ, _+_, _-_, _%_, _≤_}
 use native.Mathlib.Omega.{arith}
 use lib.ListN.{length, take, drop, length-append, length-drop, take-append-drop, drop-of-length-le}
 use lib.Seq.{take-at, drop-at, take-all, length-take-le}
+use Rattle.forms.specs.Refusals.{outcome}
 use Rattle.forms.specs.Strings.{same}
 use Rattle.modes.specs.KeyWrap.{W, W⁻¹, ICV1, wrapped, unwrapped, authentic}
 use Rattle.strings.proofs.Laying.{laid-whole, copy-front}
+use Rattle.modes.proofs.KeyWrap.{length-ICV1}
+use Rattle.key_wrap_steps.specs.Steps.{stepsRefusal}
+use Rattle.key_wrap_steps.proofs.Refusals.{steps-made}
 
 -- from byte 8 to the end
 back-part : (d : List ℕ) → take (length d - 8) (drop 8 d) ≡ drop 8 d
@@ -30,21 +34,25 @@ module _ (d y : List ℕ) (h : 8 ≤ length d) (l : length y ≡ length (take (l
   drop-after = ap (drop 8) after-back ∙ drop-at (take 8 d) y 8 (length-take-le 8 d h)
 
 -- the key laid behind the check value's place, the steps, and A laid before
-pub wrap-made : (e : List ℕ → List ℕ) (p d d₁ d₂ a r : List ℕ) {i y d₃ : List ℕ} → length d ≡ length p + 8 → i ≡ ICV1
+pub wrap-made : (e : List ℕ → List ℕ) (p d d₁ d₂ a r : List ℕ) {i y d₃ : List ℕ} {k : ℕ} → length p % 8 ≡ 0 → length p ≤ 128 → length d ≡ length p + 8 → i ≡ ICV1
     → length y ≡ length (take (length d - 8) (drop 8 d))
     → y ≡ take (length (take (length d - 8) (drop 8 d))) p ++ drop (length p) (take (length d - 8) (drop 8 d))
     → d₁ ≡ take 8 d ++ (y ++ drop (length d - 8) (drop 8 d))
-    → length a ≡ 8 → length r ≡ length (take (length d₁ - 8) (drop 8 d₁)) → a ++ r ≡ W e (i ++ take (length d₁ - 8) (drop 8 d₁))
+    → length a ≡ length i → length r ≡ length (take (length d₁ - 8) (drop 8 d₁)) → k ≡ stepsRefusal (length i) (length (take (length d₁ - 8) (drop 8 d₁)))
+    → a ++ r ≡ outcome k (W e (i ++ take (length d₁ - 8) (drop 8 d₁))) (i ++ take (length d₁ - 8) (drop 8 d₁))
     → d₂ ≡ take 8 d₁ ++ (r ++ drop (length d₁ - 8) (drop 8 d₁))
     → d₃ ≡ take (length d₂) a ++ drop (length a) d₂ → d₃ ≡ wrapped e p
 unfolding wrapped
-wrap-made e p d d₁ d₂ a r {i} {y} {d₃} n ei ly ey e₁ la lr ew e₂ e₃ =
+wrap-made e p d d₁ d₂ a r {i} {y} {d₃} w top n ei ly ey e₁ li lr ek em e₂ e₃ =
+    let eight : length i ≡ 8 = ap length ei ∙ length-ICV1 in
+    let la : length a ≡ 8 = li ∙ eight in
     let h : 8 ≤ length d = omega arith in
     let part : length p ≡ length (take (length d - 8) (drop 8 d)) = sym (ap length (back-part d) ∙ length-drop 8 d ∙ omega arith) in
     let key : y ≡ p = ey ∙ laid-whole p (take (length d - 8) (drop 8 d)) part in
     let n₁ : length d₁ ≡ length d = ap length e₁ ∙ length-after d y h ly in
     let h₁ : 8 ≤ length d₁ = omega arith in
     let rest : take (length d₁ - 8) (drop 8 d₁) ≡ p = back-part d₁ ∙ ap (drop 8) e₁ ∙ drop-after d y h ly ∙ key in
+    let ew : a ++ r ≡ W e (i ++ take (length d₁ - 8) (drop 8 d₁)) = steps-made _ _ _ _ eight (ap (λ (x : List ℕ). length x % 8) rest ∙ w) (omega (arith, ap length rest)) ek em in
     let n₂ : length d₂ ≡ length d₁ = ap length e₂ ∙ length-after d₁ r h₁ lr in
     let back : drop (length a) d₂ ≡ r = ap₂ (λ (k : ℕ) (x : List ℕ). drop k x) la e₂ ∙ drop-after d₁ r h₁ lr in
     e₃ ∙ ap₂ _++_ (take-all (length d₂) a (omega arith)) back ∙ ew ∙ ap₂ (λ (x z : List ℕ). W e (x ++ z)) ei rest

@@ -1,15 +1,13 @@
-// A run sealed and opened again by the operations themselves, a tag made and verified, a word converted from one row to another: for all
-// arguments the source comes back, or the first refusal, a tag that was made gets a yes, and the word is the one mixed by the other row.
+// A run sealed and opened again by the operations themselves, and a tag made and verified: for all arguments the source comes back, or the first
+// refusal, and a tag that was made gets a yes.
 use cmac::Verified;
 use labyrinth::WorkingKey;
-use rows::Mixed;
 use sets::Store;
 ghost use mathlib.Core.Path.{_≡_};
 ghost use Prim.Native.Nat.{_*_};
 ghost use lib.Dec.{eqb};
 ghost use lib.ListN.{length};
 ghost use Rattle.forms.specs.Refusals.{outcome, firstOf};
-ghost use Rattle.rows.specs.Rows.{rowRefusal, mixed};
 ghost use Rattle.labyrinth.specs.Keys.{E, U};
 ghost use Rattle.labyrinth.specs.Refusals.{underKey};
 ghost use Rattle.sets.specs.Sets.{loaded, partsIn};
@@ -78,15 +76,4 @@ pub fn tag_made_and_verified(
 {
     cmac::make(store, k, message, tag);
     cmac::verify(store, k, message, tag)
-}
-
-// Mixes a word by the row g and converts it to the row h, by the product of g's inverse row and h: the word mixed by h, unless one of the two
-// rows is refused.
-pub fn word_converted(g: [u8; 8], h: [u8; 8], w: u64) -> Mixed
-    ensures { λ r. ⌜ r ≡ mixed h w (firstOf (rowRefusal g) (rowRefusal h)) ⌝ }
-{
-    let x = rows::inverse(g);
-    let inverse = x.row;
-    let m = rows::mix(g, w);
-    rows::mix(rows::product(inverse, h), m.word)
 }

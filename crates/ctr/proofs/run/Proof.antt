@@ -11,7 +11,6 @@ use Rattle.labyrinth.specs.Cipher.{Parts}
 use Rattle.labyrinth.specs.Keys.{E}
 use Rattle.labyrinth.specs.Refusals.{underKey}
 use Rattle.labyrinth.proofs.Refusals.{under-refused}
-use Rattle.labyrinth.proofs.Lent.{one-lendable}
 use Rattle.sets.specs.Sets.{loaded}
 use Rattle.sets.proofs.Sets.{published-answer}
 use Rattle.sets.proofs.Lent.{Made, set-made, set-run}
@@ -67,7 +66,7 @@ made c =
     set-made (a .store) (a .k .set) (checked (e .before)) (e .if2 .left) (c .before .before .before .before .before .before .before .set-in .ensures) (c .before .before .before .table-of .ensures) (c .before .inverse-of .ensures) (c .schedule .ensures)
 
 run-lent-requires : tie.Need-run-lent-requires
-run-lent-requires c κs = one-lendable (made (c .before .before .before .before .before) .prepared)
+run-lent-requires c κs = search needs
 
 same-length-2 : tie.Need-same-length-2
 same-length-2 c = search needs

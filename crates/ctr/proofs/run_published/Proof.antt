@@ -5,7 +5,7 @@ use mathlib.Core.List.{List}
 use Prim.Native.Nat.{ℕ, _*_}
 use borrow.Author.Needs.{needs}
 use Rattle.labyrinth.specs.Lent.{ArticlePrepared}
-use Rattle.labyrinth.proofs.Lent.{one-lendable, article-run-by-one}
+use Rattle.labyrinth.proofs.Lent.{article-run-by-one}
 use Rattle.modes.specs.Ctr.{ctr}
 use Rattle.modes.proofs.Refusals.{ctr-taken}
 use Rattle.ctr.proofs.run_published.Statement.{statement}
@@ -33,7 +33,7 @@ made c = record {
 }
 
 run-lent-requires : tie.Need-run-lent-requires
-run-lent-requires c κs = one-lendable (made (c .before .before .before .before .before))
+run-lent-requires c κs = search needs
 
 same-length : tie.Need-same-length
 same-length c = search needs

@@ -9,7 +9,8 @@ use borrow.Author.Tests.{not-true, not-false}
 use borrow.Author.Needs.{needs}
 use Rattle.forms.specs.Refusals.{unless}
 use Rattle.labyrinth.specs.Lent.{lent}
-use Rattle.modes.specs.KeyWrap.{authentic}
+use Rattle.modes.specs.KeyWrap.{W⁻¹, authentic}
+use Rattle.key_wrap_steps.proofs.Refusals.{steps-made}
 use Rattle.key_wrap_lent.proofs.Keys.{Ready, ready, checked, front-part, unwrap-made}
 use Rattle.key_wrap_lent.proofs.unwrap_into.Statement.{statement}
 use Rattle.key_wrap_lent.proofs.unwrap_into.Tie as tie
@@ -38,8 +39,8 @@ part-copy-into-end c = search needs
 copy-into-requires-2 : tie.Need-copy-into-requires-2
 copy-into-requires-2 c κs = search needs
 
-slice-aggregate-unwrap-steps : tie.Need-slice-aggregate-unwrap-steps
-slice-aggregate-unwrap-steps c = search needs
+slice-aggregate-w-inverse : tie.Need-slice-aggregate-w-inverse
+slice-aggregate-w-inverse c = search needs
 
 array-borrow-prefix-r : tie.Need-array-borrow-prefix-r
 array-borrow-prefix-r c = search needs
@@ -51,11 +52,20 @@ laid c =
     ready (s .args .src .now) (s .args .dst .now) (replicate 8 0) (c .before .before .before .before .before .before .room .result) (s .pre .2) (s .pre .1) refl
     (c .before .before .before .before .before .before .before .before .copy-into .ensures) (c .before .before .before .before .before .before .room .ensures) (c .before .before .before .copy-into2 .ensures)
 
-slice-aggregate-unwrap-steps-2 : tie.Need-slice-aggregate-unwrap-steps-2
-slice-aggregate-unwrap-steps-2 c = sym (laid c .size)
+slice-aggregate-w-inverse-2 : tie.Need-slice-aggregate-w-inverse-2
+slice-aggregate-w-inverse-2 c = sym (laid c .size)
 
-unwrap-steps-requires : tie.Need-unwrap-steps-requires
-unwrap-steps-requires c κs = let s = c .before .before .before .before .before .before .before .before .before .before .before .before in (laid c .eight, omega (arith, laid c .size, s .pre .0, s .pre .2), omega (arith, laid c .size, s .pre .1, s .pre .2))
+w-inverse-requires : tie.Need-w-inverse-requires
+w-inverse-requires c κs = search needs
+
+-- what the steps make of both
+made : (c : tie.After-w-inverse) → let a = c .before .before .before .before .before .before .before .before .before .before .before .before .before .args in
+    c .w-inverse .last .1 .1 .1 .1 .0 ++ c .w-inverse .last .1 .1 .1 .1 .1 .0
+    ≡ W⁻¹ (lent 1 (a .t .now) (a .s .now) (a .u .now) (a .ks .now)) (c .before .before .before .before .before .before .before .before .before .copy-into .last .0 ++ take (length (a .dst .now)) (c .before .before .before .before .copy-into2 .last .0))
+made c =
+    let s = c .before .before .before .before .before .before .before .before .before .before .before .before .before in
+    let r = laid (c .before) in
+    steps-made _ _ _ _ (r .eight) (omega (arith, r .size, s .pre .0, s .pre .2)) (omega (arith, r .size, s .pre .1, s .pre .2)) (c .w-inverse .ensures .0) (c .w-inverse .ensures .1)
 
 check-value-requires : tie.Need-check-value-requires
 check-value-requires c κs = search needs
@@ -75,19 +85,19 @@ check c =
     let w = c .before .before .before .before .before .before in
     let a = w .before .before .before .before .before .before .before .before .before .before .before .before .before .args in
     checked (lent 1 (a .t .now) (a .s .now) (a .u .now) (a .ks .now)) (a .src .now) (a .dst .now) _ _ (laid (w .before))
-    (w .unwrap-steps .last .1 .1 .1 .1 .0) (w .unwrap-steps .last .1 .1 .1 .1 .1 .0) (w .unwrap-steps .kept .1 .1 .1 .1 .0) (w .unwrap-steps .kept .1 .1 .1 .1 .1 .0) (w .unwrap-steps .ensures)
+    (w .w-inverse .last .1 .1 .1 .1 .0) (w .w-inverse .last .1 .1 .1 .1 .1 .0) (w .w-inverse .kept .1 .1 .1 .1 .0) (w .w-inverse .kept .1 .1 .1 .1 .1 .0) (made w)
     (c .before .before .before .check-value .ensures) (c .equal .ensures)
 
 -- behind it, the room's front is what the steps made
 front : (c : tie.Else1)
     → let w = c .before .before .before .before .before .before .before in
     let a = w .before .before .before .before .before .before .before .before .before .before .before .before .before .args in
-    take (length (a .dst .now)) (w .unwrap-steps .last .1 .1 .1 .1 .1 .0 ++ drop (length (a .dst .now)) (w .before .before .before .before .copy-into2 .last .0)) ≡ w .unwrap-steps .last .1 .1 .1 .1 .1 .0
+    take (length (a .dst .now)) (w .w-inverse .last .1 .1 .1 .1 .1 .0 ++ drop (length (a .dst .now)) (w .before .before .before .before .copy-into2 .last .0)) ≡ w .w-inverse .last .1 .1 .1 .1 .1 .0
 front c =
     let w = c .before .before .before .before .before .before .before in
     let a = w .before .before .before .before .before .before .before .before .before .before .before .before .before .args in
     front-part (lent 1 (a .t .now) (a .s .now) (a .u .now) (a .ks .now)) (a .src .now) (a .dst .now) _ _ (laid (w .before))
-    (w .unwrap-steps .last .1 .1 .1 .1 .0) (w .unwrap-steps .last .1 .1 .1 .1 .1 .0) (w .unwrap-steps .kept .1 .1 .1 .1 .0) (w .unwrap-steps .kept .1 .1 .1 .1 .1 .0) (w .unwrap-steps .ensures)
+    (w .w-inverse .last .1 .1 .1 .1 .0) (w .w-inverse .last .1 .1 .1 .1 .1 .0) (w .w-inverse .kept .1 .1 .1 .1 .0) (w .w-inverse .kept .1 .1 .1 .1 .1 .0) (made w)
 
 returns : tie.Need-returns
 returns c = (ap (λ (b : Bool). unless b 18 0) (sym (sym (check (c .before)) ∙ not-true _ (c .if1 .taken))), refl)
@@ -96,13 +106,13 @@ array-share-prefix-r : tie.Need-array-share-prefix-r
 array-share-prefix-r c =
     let w = c .before .before .before .before .before .before .before .before in
     let d = w .before .before .before .before .before .before .before .before .before .before .before .before .before .args .dst .now in
-    omega (arith, length-append (w .unwrap-steps .last .1 .1 .1 .1 .1 .0) (drop (length d) (w .before .before .before .before .copy-into2 .last .0)), w .unwrap-steps .kept .1 .1 .1 .1 .1 .0, laid (w .before) .size)
+    omega (arith, length-append (w .w-inverse .last .1 .1 .1 .1 .1 .0) (drop (length d) (w .before .before .before .before .copy-into2 .last .0)), w .w-inverse .kept .1 .1 .1 .1 .1 .0, laid (w .before) .size)
 
 slice-aggregate-copy-into-3 : tie.Need-slice-aggregate-copy-into-3
 slice-aggregate-copy-into-3 c =
     let e = c .before .before in
     let w = e .before .before .before .before .before .before .before in
-    sym (ap length (front e) ∙ w .unwrap-steps .kept .1 .1 .1 .1 .1 .0 ∙ laid (w .before) .size)
+    sym (ap length (front e) ∙ w .w-inverse .kept .1 .1 .1 .1 .1 .0 ∙ laid (w .before) .size)
 
 copy-into-requires-3 : tie.Need-copy-into-requires-3
 copy-into-requires-3 c κs = search needs
@@ -117,7 +127,7 @@ returns-2 c =
     let a = w .before .before .before .before .before .before .before .before .before .before .before .before .before .args in (
       ap (λ (b : Bool). unless b 18 0) (sym (sym (check (e .before)) ∙ not-false _ (e .if1 .left))),
       unwrap-made (lent 1 (a .t .now) (a .s .now) (a .u .now) (a .ks .now)) (a .src .now) (a .dst .now) _ _ (laid (w .before))
-          (w .unwrap-steps .last .1 .1 .1 .1 .0) (w .unwrap-steps .last .1 .1 .1 .1 .1 .0) (w .unwrap-steps .kept .1 .1 .1 .1 .0) (w .unwrap-steps .kept .1 .1 .1 .1 .1 .0) (w .unwrap-steps .ensures)
+          (w .w-inverse .last .1 .1 .1 .1 .0) (w .w-inverse .last .1 .1 .1 .1 .1 .0) (w .w-inverse .kept .1 .1 .1 .1 .0) (w .w-inverse .kept .1 .1 .1 .1 .1 .0) (made w)
           (c .before .before .copy-into3 .ensures),
     )
 
@@ -133,10 +143,10 @@ unwrap-into-spec =
     part-copy-into-start
     part-copy-into-end
     copy-into-requires-2
-    slice-aggregate-unwrap-steps
+    slice-aggregate-w-inverse
     array-borrow-prefix-r
-    slice-aggregate-unwrap-steps-2
-    unwrap-steps-requires
+    slice-aggregate-w-inverse-2
+    w-inverse-requires
     check-value-requires
     slice-aggregate-equal
     slice-aggregate-equal-2

@@ -1,10 +1,8 @@
 -- The key is laid behind the place of A, the steps work there, and A is laid before.
 -- Assumes nothing.
-use mathlib.Core.Path.{refl, ap, _∙_}
-use lib.ListN.{length}
+use mathlib.Core.Path.{refl}
 use borrow.Author.Needs.{needs}
 use Rattle.labyrinth.specs.Lent.{lent}
-use Rattle.modes.proofs.KeyWrap.{length-ICV1}
 use Rattle.key_wrap_lent.proofs.Keys.{wrap-made}
 use Rattle.key_wrap_lent.proofs.wrap_into.Statement.{statement}
 use Rattle.key_wrap_lent.proofs.wrap_into.Tie as tie
@@ -24,20 +22,20 @@ part-copy-into-end c = search needs
 copy-into-requires : tie.Need-copy-into-requires
 copy-into-requires c κs = search needs
 
-slice-aggregate-wrap-steps : tie.Need-slice-aggregate-wrap-steps
-slice-aggregate-wrap-steps c = search needs
+slice-aggregate-w : tie.Need-slice-aggregate-w
+slice-aggregate-w c = search needs
 
-sub-wrap-steps : tie.Need-sub-wrap-steps
-sub-wrap-steps c = search needs
+sub-w : tie.Need-sub-w
+sub-w c = search needs
 
-part-wrap-steps-start : tie.Need-part-wrap-steps-start
-part-wrap-steps-start c = search needs
+part-w-start : tie.Need-part-w-start
+part-w-start c = search needs
 
-part-wrap-steps-end : tie.Need-part-wrap-steps-end
-part-wrap-steps-end c = search needs
+part-w-end : tie.Need-part-w-end
+part-w-end c = search needs
 
-wrap-steps-requires : tie.Need-wrap-steps-requires
-wrap-steps-requires c κs = search needs
+w-requires : tie.Need-w-requires
+w-requires c κs = search needs
 
 slice-aggregate-copy-into : tie.Need-slice-aggregate-copy-into
 slice-aggregate-copy-into c = search needs
@@ -54,9 +52,9 @@ returns c =
     let o = w .before .before .before .before .before in
     let s = o .before .before .before .before .before in
     let a = s .args in
-    wrap-made (lent 1 (a .t .now) (a .s .now) (a .u .now) (a .ks .now)) (a .src .now) (a .dst .now) _ _ (w .wrap-steps .last .1 .1 .1 .1 .0) (w .wrap-steps .last .1 .1 .1 .1 .1 .0) (s .pre .2) (o .before .before .check-value .ensures)
+    wrap-made (lent 1 (a .t .now) (a .s .now) (a .u .now) (a .ks .now)) (a .src .now) (a .dst .now) _ _ (w .w .last .1 .1 .1 .1 .0) (w .w .last .1 .1 .1 .1 .1 .0) (s .pre .0) (s .pre .1) (s .pre .2) (o .before .before .check-value .ensures)
     (o .copy-into .kept .0) (o .copy-into .ensures) refl
-    (w .wrap-steps .kept .1 .1 .1 .1 .0 ∙ ap length (o .before .before .check-value .ensures) ∙ length-ICV1) (w .wrap-steps .kept .1 .1 .1 .1 .1 .0) (w .wrap-steps .ensures) refl
+    (w .w .kept .1 .1 .1 .1 .0) (w .w .kept .1 .1 .1 .1 .1 .0) (w .w .ensures .0) (w .w .ensures .1) refl
     (c .before .before .copy-into2 .ensures)
 
 pub wrap-into-spec : {M : Type 1} → statement M
@@ -68,11 +66,11 @@ wrap-into-spec =
     part-copy-into-start
     part-copy-into-end
     copy-into-requires
-    slice-aggregate-wrap-steps
-    sub-wrap-steps
-    part-wrap-steps-start
-    part-wrap-steps-end
-    wrap-steps-requires
+    slice-aggregate-w
+    sub-w
+    part-w-start
+    part-w-end
+    w-requires
     slice-aggregate-copy-into
     copy-into-requires-2
     same-length
