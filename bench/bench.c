@@ -1,5 +1,5 @@
 /* Times the proved code against C in several shapes and OpenSSL's Camellia and ARIA at n = 1, 2 and 4: many blocks each by itself, both
-   ways, and runs by CBC and CTR; then tags, runs of all lengths, expansion, short runs, mixing, merged tables, the product and inverse
+   ways, and runs by CBC and CTR; then tags, wrapped keys, runs of all lengths, expansion, short runs, mixing, merged tables, the product and inverse
    of rows, and a verdict on a row. Always the best of several passes, all in turn.
    First C must give the same bytes. Times are of the processor given to the thread, so that other work disturbs them little; short runs go
    by the clock, which is read faster. It assumes Linux on x86-64. */
@@ -19,6 +19,9 @@ uint8_t sigourta_cbc_open(size_t n, const uint64_t words[32], const uint8_t *sta
 uint8_t sigourta_ctr(size_t n, const uint64_t words[32], const uint8_t *start, size_t start_length, uint64_t q, const uint8_t *src, size_t src_length, uint8_t *dst, size_t dst_length);
 uint8_t sigourta_cmac(const uint64_t words[32], const uint8_t *message, size_t length, uint8_t *tag, size_t tag_length);
 uint8_t sigourta_cmac_verify(const uint64_t words[32], const uint8_t *message, size_t length, const uint8_t *tag, size_t tag_length);
+uint8_t sigourta_wrap(const uint64_t words[32], const uint8_t *key, size_t length, uint8_t *wrapped, size_t wrapped_length);
+uint8_t sigourta_unwrap(const uint64_t words[32], const uint8_t *wrapped, size_t wrapped_length, uint8_t *key, size_t length);
+void sigourta_block_calls(const uint64_t words[32], uint8_t pairs, uint8_t *one, size_t one_length, uint8_t *two, size_t two_length);
 uint8_t sigourta_make_table(const uint8_t row[8], uint64_t *table, size_t table_length);
 uint64_t labyrinth_mix(uint64_t word);
 uint8_t labyrinth_mix_row(const uint8_t *row, size_t row_length, uint64_t word, uint64_t *out);
@@ -203,6 +206,67 @@ static void tags(void) {
         printf("%8zu  %11.2f", length, best[SEALED] / (double)length);
         for (int who = 0; who < TAGGERS; who++)
             if (who != SEALED) printf("  %5.2f (%.2f)", best[who] / (double)length, best[who] / best[SEALED]);
+        printf("\n");
+    }
+}
+
+/* who wraps a key or unwraps one: ours, C by one table and by eight; and ours for as many blocks, each made of the one before, and no more */
+enum { OURS, WRAP_ONE, WRAP_EIGHT, BLOCK_CALLS, WRAPPERS };
+
+static uint8_t run_wrap(int who, int back, size_t length, const uint8_t *given, uint8_t *made) {
+    uint64_t schedule[80];
+    if (who == OURS)
+        return back ? sigourta_unwrap(words, given, length + 8, made, length) : sigourta_wrap(words, given, length, made, length + 8);
+    if (who == BLOCK_CALLS) {
+        sigourta_block_calls(words, (uint8_t)(3 * length / 8), made, 16, made + 16, 16);
+        return 0;
+    }
+    lab_schedule(1, words, back, schedule);
+    if (back) return lab_unwrap(who == WRAP_ONE ? LAB_ONE : LAB_EIGHT, schedule, given, length, made) ? 0 : 18;
+    lab_wrap(who == WRAP_ONE ? LAB_ONE : LAB_EIGHT, schedule, given, length, made);
+    return 0;
+}
+
+/* C in both shapes wraps as ours does, and both unwrap and refuse the same; 0 if not */
+static int same_wraps(void) {
+    uint8_t ours[136], theirs[136], key[128];
+    for (size_t length = 16; length <= 128; length += 8)
+        for (int who = WRAP_ONE; who <= WRAP_EIGHT; who++) {
+            int same = run_wrap(OURS, 0, length, input, ours) == 0 && run_wrap(who, 0, length, input, theirs) == 0 && memcmp(ours, theirs, length + 8) == 0;
+            for (int us = 0; us < 2; us++) {
+                memset(key, 0, sizeof key);
+                same &= run_wrap(us ? OURS : who, 1, length, ours, key) == 0 && memcmp(key, input, length) == 0;
+            }
+            theirs[length] ^= 1;
+            same &= run_wrap(OURS, 1, length, theirs, key) == 18 && run_wrap(who, 1, length, theirs, key) == 18;
+            if (!same) {
+                printf("wrapped keys of %zu bytes, C's shape %d: DIFFER\n", length, who - WRAP_ONE);
+                return 0;
+            }
+        }
+    return 1;
+}
+
+static void wraps(void) {
+    static const size_t SIZE[] = {16, 32, 128};
+    printf("Wrapped keys at n = 1, us for one, with the preparation; behind it ours / ours for as many blocks and the same preparation, and C's time by the\n");
+    printf("same loops / ours.\n");
+    printf("           wrapped           /blocks   1 table  8 tables     unwrapped           /blocks   1 table  8 tables\n");
+    for (int i = 0; i < 3; i++) {
+        double best[2][WRAPPERS] = {{0}};
+        uint8_t wrapped[136], made[136];
+        run_wrap(OURS, 0, SIZE[i], input, wrapped);
+        for (int pass = 0; pass < 300; pass++)
+            for (int back = 0; back < 2; back++)
+                for (int who = 0; who < WRAPPERS; who++) {
+                    double began = now();
+                    for (int j = 0; j < 100; j++) run_wrap(who, back, SIZE[i], back ? wrapped : input, made);
+                    keep(&best[back][who], (now() - began) / 100);
+                }
+        printf("%3zu bytes", SIZE[i]);
+        for (int back = 0; back < 2; back++)
+            printf("  %8.2f  %16.3f  %8.2f  %8.2f", best[back][OURS] / 1000, best[back][OURS] / best[back][BLOCK_CALLS], best[back][WRAP_ONE] / best[back][OURS],
+                   best[back][WRAP_EIGHT] / best[back][OURS]);
         printf("\n");
     }
 }
@@ -432,10 +496,11 @@ int main(void) {
     for (int kind = 0; kind < KINDS; kind++)
         for (int size = 0; size < 3; size++)
             if (!same_bytes(kind, 1 << size)) return 1;
-    if (!same_tags() || !same_mixed() || !same_rows() || !same_verdicts()) return 1;
+    if (!same_tags() || !same_wraps() || !same_mixed() || !same_rows() || !same_verdicts()) return 1;
     if (others_version() && !(others_work(CAMELLIA) && others_work(ARIA))) return 1;
     ratios();
     tags();
+    wraps();
     growth();
     expansion();
     short_runs();

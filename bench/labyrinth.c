@@ -308,6 +308,46 @@ void lab_tag(enum lab_shape shape, const uint64_t *k, const uint8_t *message, si
     else tag_(1, k, message, length, tag);
 }
 
+INLINE void wrap_(int wide, const uint64_t *k, const uint8_t *key, size_t length, uint8_t *wrapped) {
+    uint8_t x[16], *r = wrapped + 8, t = 0;
+    memset(x, 0xA6, 8);
+    memcpy(r, key, length);
+    for (int round = 0; round < 6; round++)
+        for (size_t at = 0; at < length; at += 8) {
+            memcpy(x + 8, r + at, 8);
+            block(1, wide, k, x, x);
+            x[7] ^= ++t;
+            memcpy(r + at, x + 8, 8);
+        }
+    memcpy(wrapped, x, 8);
+}
+
+void lab_wrap(enum lab_shape shape, const uint64_t *k, const uint8_t *key, size_t length, uint8_t *wrapped) {
+    if (shape == LAB_ONE) wrap_(0, k, key, length, wrapped);
+    else wrap_(1, k, key, length, wrapped);
+}
+
+INLINE int unwrap_(int wide, const uint64_t *k, const uint8_t *wrapped, size_t length, uint8_t *key) {
+    static const uint8_t CHECK[8] = {0xA6, 0xA6, 0xA6, 0xA6, 0xA6, 0xA6, 0xA6, 0xA6};
+    uint8_t x[16], r[128], t = (uint8_t)(6 * (length / 8));
+    memcpy(x, wrapped, 8);
+    memcpy(r, wrapped + 8, length);
+    for (int round = 0; round < 6; round++)
+        for (size_t at = length; at > 0; at -= 8) {
+            x[7] ^= t--;
+            memcpy(x + 8, r + at - 8, 8);
+            block(1, wide, k, x, x);
+            memcpy(r + at - 8, x + 8, 8);
+        }
+    if (memcmp(x, CHECK, 8) != 0) return 0;
+    memcpy(key, r, length);
+    return 1;
+}
+
+int lab_unwrap(enum lab_shape shape, const uint64_t *k, const uint8_t *wrapped, size_t length, uint8_t *key) {
+    return shape == LAB_ONE ? unwrap_(0, k, wrapped, length, key) : unwrap_(1, k, wrapped, length, key);
+}
+
 const uint8_t lab_row[8] = {0x01, 0x01, 0x03, 0x0F, 0x0A, 0x1F, 0x0F, 0x0C};
 
 INLINE uint8_t times(uint8_t a, uint8_t b) {

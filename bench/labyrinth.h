@@ -15,6 +15,9 @@ void lab_schedule(int n, const uint64_t *w, int back, uint64_t *k);
 void lab_run(enum lab_shape shape, enum lab_kind kind, int n, const uint64_t *k, const uint8_t *start, const uint8_t *src, uint8_t *dst, size_t blocks);
 /* CMAC of a message at n = 1, block by block, by one table or by eight */
 void lab_tag(enum lab_shape shape, const uint64_t *k, const uint8_t *message, size_t length, uint8_t tag[16]);
+/* KW of a key at n = 1, whole semiblocks, and back, block by block, by one table or by eight; unwrapping answers whether the check value is right */
+void lab_wrap(enum lab_shape shape, const uint64_t *k, const uint8_t *key, size_t length, uint8_t *wrapped);
+int lab_unwrap(enum lab_shape shape, const uint64_t *k, const uint8_t *wrapped, size_t length, uint8_t *key);
 /* mixing by the published row's matrix, product by product, the loop of each ending after the multiplier's highest one; by any row, all bytes
    of the word at once, eight turns always; and the merged table of a row, the product of two rows and the inverse row, made so too */
 extern const uint8_t lab_row[8];

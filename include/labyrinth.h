@@ -1,7 +1,7 @@
-/* The block cipher Labyrinth, and over it CBC and CTR of NIST SP 800-38A and the tag of SP 800-38B (CMAC). Each function that takes a key
- * expands it, does one operation and keeps nothing; two mix a word, two make a row, and one judges a row. Those whose names begin with
- * labyrinth_key_ take a working key, expanded before by labyrinth_expand, and a store of substitutions and rows. n is 1, 2 or 4: a block has
- * 16n bytes. l is 2, 3 or 4: a key has 8nl bytes. Tags are at n = 1.
+/* The block cipher Labyrinth, and over it CBC and CTR of NIST SP 800-38A, the tag of SP 800-38B (CMAC) and the wrapping of keys of SP
+ * 800-38F (KW). Each function that takes a key expands it, does one operation and keeps nothing; two mix a word, two make a row, and one
+ * judges a row. Those whose names begin with labyrinth_key_ take a working key, expanded before by labyrinth_expand, and a store of
+ * substitutions and rows. n is 1, 2 or 4: a block has 16n bytes. l is 2, 3 or 4: a key has 8nl bytes. Tags and wrapped keys are at n = 1.
  *
  * Returned is the number of documents 01 and 02: 0 if it was done, else the first of these that applies, and then dst, or the tag to be
  * made, holds what it held before, and so do a store and a working key:
@@ -9,26 +9,29 @@
  *   1  n isn't 1, 2 or 4
  *   2  l isn't 2, 3 or 4
  *  15  the store has no such set, or it isn't loaded; there is no such publisher
- *  12  n isn't 1 (a tag under a working key)
+ *  12  n isn't 1 (a tag, or a wrapped key, under a working key)
  *   3  the key isn't 8nl bytes
  *   6  the start block isn't 16n bytes
  *   4  the source isn't 16n bytes (a block), or no multiple of that (CBC); a row isn't 8 bytes (here the number is our choice)
+ *  17  a key to be wrapped isn't 16 to 128 bytes, or one to be unwrapped isn't 24 to 136, in steps of 8
  *  14  the substitution isn't 256 different bytes
  *  13  the row's eight coefficients XOR to zero (a product takes any rows, and any row is judged)
  *  16  someone holds the set, the loader included
- *   5  the destination isn't 16n bytes (a block), or isn't as long as the source (CBC, CTR), or isn't 8 bytes (a row)
+ *   5  the destination isn't 16n bytes (a block), or isn't as long as the source (CBC, CTR), or isn't 8 bytes (a row), or isn't 8 bytes
+ *      longer than the source (wrapping) or 8 bytes shorter (unwrapping)
  *  11  the tag isn't 8 to 16 bytes
+ *  18  the check value of a key to be unwrapped is wrong
  *
  * 0 alone does not say that a page is genuine: by a wrong key, or altered, it opens to something too, and verifying its tag returns 0 for a
- * no as for a yes. So does judging a row. Look at *yes.
+ * no as for a yes. So does judging a row. Look at *yes. Unwrapping has no *yes: there 18 is the no.
  *
  * What the caller owes; what is proved of these functions holds only then:
  *   - Each pointer is valid for its length: key, start, src, msg, row, g, h, substitution, a const store, a const working key and the tag to
  *     be verified for reading, dst, the tag to be made, and a store or a working key that isn't const for writing. Any alignment will do.
  *     NULL only with length 0: such a pointer is never followed. yes points to one byte for writing, out and row_judge's word to a uint64_t
  *     for writing, aligned as a uint64_t is; none of these is ever NULL.
- *   - What is written overlaps nothing else of its call; what is only read may overlap. So nothing is sealed or opened in place, and no
- *     product or inverse put in the place of a row that it is made from.
+ *   - What is written overlaps nothing else of its call; what is only read may overlap. So nothing is sealed, opened, wrapped or unwrapped
+ *     in place, and no product or inverse put in the place of a row that it is made from.
  *   - While a call runs nobody else writes to its buffers or reads those that it writes, which may hold other bytes then than in the end.
  *   - The stack has LABYRINTH_STACK bytes left.
  *
@@ -44,7 +47,7 @@
 #include <stdint.h>
 
 /* The library's version is 0.k.0, the landing being the kth in CHANGELOG.md from the first release, 0.1.0, on. */
-#define LABYRINTH_VERSION "0.13.0"
+#define LABYRINTH_VERSION "0.14.0"
 
 /* No call uses more bytes of the stack. Measured on a painted stack were 34816, of a tag under a working key of another set than 0, the return
  * address and what the caller pushes counted (x86_64 Linux, Debian 12, gcc 12.2, glibc 2.36, the archive as rattle-kit-5b makes it); the rest
@@ -112,6 +115,18 @@ uint8_t labyrinth_key_cbc_open(const uint8_t *store, size_t store_len, const uin
 uint8_t labyrinth_key_ctr(const uint8_t *store, size_t store_len, const uint8_t *working, size_t working_len, const uint8_t *start, size_t start_len, uint64_t q, const uint8_t *src, size_t src_len, uint8_t *dst, size_t dst_len);
 uint8_t labyrinth_key_cmac(const uint8_t *store, size_t store_len, const uint8_t *working, size_t working_len, const uint8_t *msg, size_t msg_len, uint8_t *tag, size_t tag_len);
 uint8_t labyrinth_key_cmac_verify(const uint8_t *store, size_t store_len, const uint8_t *working, size_t working_len, const uint8_t *msg, size_t msg_len, const uint8_t *tag, size_t tag_len, uint8_t *yes);
+
+/* Keys wrapped under a working key, by KW: of 16 to 128 bytes, in steps of 8; and unwrapped, from 24 to 136. dst has 8 bytes more than src at
+ * wrapping, 8 less at unwrapping. The working key is a master key's, with n = 1, and should be used for nothing else. The order is 4, 1, 15,
+ * 12, 17, 5, and then, at unwrapping only, 18.
+ *
+ * What was wrapped unwraps to the key under the same working key, by any store that has its set loaded with the substitution and the row
+ * that wrapping had. What unwrapping takes is just what wrapping makes of some key; all else of such a length gets 18. So a wrapped key that
+ * was altered, or is under another master key or set, is noticed, unless by chance it is what wrapping makes of another key. Nothing of a
+ * key whose check value is wrong is ever written to dst, not while the call runs either; on the stack it stays, as keys do. While a key is
+ * being wrapped dst may hold it. A key wrapped twice gives the same bytes twice. */
+uint8_t labyrinth_key_wrap(const uint8_t *store, size_t store_len, const uint8_t *working, size_t working_len, const uint8_t *src, size_t src_len, uint8_t *dst, size_t dst_len);
+uint8_t labyrinth_key_unwrap(const uint8_t *store, size_t store_len, const uint8_t *working, size_t working_len, const uint8_t *src, size_t src_len, uint8_t *dst, size_t dst_len);
 
 /* The article's mixing of a word. */
 uint64_t labyrinth_mix(uint64_t word);

@@ -31,6 +31,10 @@ def answer(op, *fields):
         l, key, message, tag = fields
         made = modes.cmac(cipher(1, l, key), data(message), len(data(tag)))
         return f"0 {made.hex()}" if op == "cmac" else f"0 {int(made == data(tag))}"
+    if op in ("wrap", "unwrap"):
+        l, key, source, _ = fields
+        made = (modes.kw_wrap if op == "wrap" else modes.kw_unwrap)(cipher(1, l, key), data(source))
+        return "18 -" if made is None else f"0 {made.hex()}"
     n, l, key, *rest = fields
     c = cipher(n, l, key)
     if op == "encipher":

@@ -1,8 +1,8 @@
 #!/usr/bin/env python3
-"""Tries the command labyrinth (target/rust/release/labyrinth): the archivists' CBC, CTR and CMAC vectors through files and standard streams,
-pages and tags with three other sets of tables, the page of its own help, every exit status and number, and that no run leaves a half-written
-OUT; then shows that one altered byte is noticed. Expected numbers are those of documents 01 and 02 (tests/papers.py), expected bytes and tags the
-archivists'."""
+"""Tries the command labyrinth (target/rust/release/labyrinth): the archivists' CBC, CTR, CMAC and KW vectors through files and standard streams,
+pages, tags and wrapped keys with three other sets of tables, the page and the keys of its own help, every exit status and number, and that no run
+leaves a half-written OUT; then shows that one altered byte is noticed. Expected numbers are those of documents 01 and 02 (tests/papers.py), expected
+bytes, tags and keys the archivists'."""
 import json
 import os
 import pty
@@ -31,7 +31,7 @@ START = "ff" * 16
 MIB = 1 << 20
 OLD = b"what OUT held before"
 NOBODY = 65534
-COUNT = 1965
+COUNT = 2813
 
 
 class Wrong(Exception):
@@ -143,12 +143,16 @@ def tag_words(way="tag", l=2, key="key", value=None, names=("page",), tables=Non
     return [way, "-l", str(l), "--key-file", key, *option, *with_tables(tables), *names]
 
 
+def wrap_words(way="wrap", l=2, key="key", names=("other.key", "out"), tables=None):
+    return [way, "-l", str(l), "--key-file", key, *with_tables(tables), *names]
+
+
 def with_tables(name):
     return [] if name is None else ["--set", name]
 
 
 def papers_number(place, words):
-    """For words as the two functions above make them, with files of hexadecimal digits for the key and of bytes for IN."""
+    """For words as the three functions above make them, with files of hexadecimal digits for the keys and of bytes for IN, if it isn't a key."""
     way, names = words[0], 1 if words[0] in ("tag", "verify") else 2
     said = dict(zip(words[1:-names:2], words[2:-names:2]))
     l, key = int(said["-l"]), len(place.read(said["--key-file"])) // 2
@@ -159,6 +163,10 @@ def papers_number(place, words):
             return number
     if names == 1:
         return papers.through_c("cmac", 1, l, key, 0, 0, int(said.get("--length", 16)) if way == "tag" else len(said["--tag"]) // 2)
+    if way in ("wrap", "unwrap"):
+        # an IN that isn't there is as good as any
+        source = len(place.read(words[-2])) // 2 if os.path.exists(place.at(words[-2])) else 24
+        return papers.through_c(way, 1, l, key, 0, source, source + (8 if way == "wrap" else -8))
     source = len(place.read(words[-2]))
     return papers.through_c("ctr" if said["--mode"] == "ctr" else f"cbc_{way}", int(said["-n"]), l, key, len(said["--start"]) // 2, source, source)
 
@@ -175,8 +183,8 @@ def tag_of(data, length=16):
 def archivists_vectors():
     with open(os.path.join(HERE, "archivists", "vectors.json")) as file:
         found = json.load(file)
-    if (len(found["cbc"]), len(found["ctr"]), len(found["cmac"])) != (72, 360, 40):
-        raise Wrong("not 72 CBC, 360 CTR and 40 CMAC vectors")
+    if (len(found["cbc"]), len(found["ctr"]), len(found["cmac"]), len(found["kw"])) != (72, 360, 40, 30):
+        raise Wrong("not 72 CBC, 360 CTR, 40 CMAC and 30 KW vectors")
     return found
 
 
@@ -339,6 +347,199 @@ def tag_files(place):
         os.remove(place.at(extra))
 
 
+NOT_WRAPPED = "no: refused with 18: the wrapped key's check value is wrong"
+
+
+def line(data):
+    """A key as the command writes it."""
+    return data.hex().encode() + b"\n"
+
+
+def wrapped(key, master=KEY):
+    return modes.kw_wrap(labyrinth.Labyrinth(1, bytes.fromhex(master)), key)
+
+
+def some_key(count):
+    """It has digits of KEY in it, so that a message that shows it is noticed."""
+    return (bytes.fromhex(KEY) * 10)[3 : 3 + count]
+
+
+def wrap_vectors(place, alter=lambda data: data):
+    """Each key is wrapped and unwrapped from file to file and from stream to stream; with a bit altered it gets a no, and no OUT."""
+    for v in archivists_vectors()["kw"]:
+        key, secret = bytes.fromhex(v["pt"]), bytes.fromhex(v["ct"])
+        place.write("vector.key", v["key"].encode())
+        case = dict(l=v["l"], key="vector.key")
+        for way, source, expected in (("wrap", key, secret), ("unwrap", secret, key)):
+            what = f"{way}, l = {v['l']}, {len(source)} bytes"
+            place.write("in", source.hex().encode())
+            place.works(what, wrap_words(way, **case, names=("in", "out")), line(alter(expected)))
+            os.remove(place.at("out"))
+            place.works(what + ", streams", wrap_words(way, **case, names=("-", "-")), line(alter(expected)), out="-", given=line(source))
+        place.write("in", flipped(secret).hex().encode())
+        place.fails("an altered wrapped key", 4, f"in: {NOT_WRAPPED}", wrap_words("unwrap", **case, names=("in", "out")))
+        place.fails("an altered wrapped key, streams", 4, NOT_WRAPPED, wrap_words("unwrap", **case, names=("-", "-")), out=None, given=line(flipped(secret)))
+    for name in ("in", "vector.key"):
+        os.remove(place.at(name))
+
+
+def wrap_forms(place):
+    """Ways to write one thing; every bit of a wrapped key; another master key; what is unwrapped seals a page."""
+    key, page = some_key(16), place.read("page")
+    secret = wrapped(key)
+    digits = secret.hex()
+    place.write("some.key", key.hex().encode())
+    place.write("some.wrapped", line(secret))
+    unwrap = dict(way="unwrap", names=("some.wrapped", "out"))
+    place.write("spaced", ("\r\n".join(digits[i : i + 8].upper() for i in range(0, 48, 8)) + "\n\n").encode())
+    place.works("a wrapped key in groups", wrap_words("unwrap", names=("spaced", "out")), line(key))
+    place.works("the master key from standard input", wrap_words(key="-", names=("some.key", "out")), line(secret), given=KEY.encode())
+    place.works("from standard input to a file", wrap_words(names=("-", "out")), line(secret), given=key.hex().encode())
+    place.works("from a file to standard output", wrap_words("unwrap", names=("some.wrapped", "-")), line(key), out="-")
+    place.works("options last", ["wrap", "some.key", "out", *wrap_words()[1:-2]], line(secret))
+    place.write("-x", key.hex().encode())
+    place.works("names after --", wrap_words(names=("--", "-x", "out")), line(secret))
+    name = os.fsencode(place.path) + b"/\xff\xfe"
+    place.works("a name that is no text", wrap_words(names=("some.key", name)), line(secret), out=os.fsdecode(name))
+    for extra in ("-x", "spaced", "out", os.fsdecode(name)):
+        os.remove(place.at(extra))
+    # what OUT was: its permissions and a link to it stay; a new one heeds the umask
+    place.write("out", OLD)
+    os.chmod(place.at("out"), 0o600)
+    os.symlink("out", place.at("link"))
+    place.works("OUT by a link", wrap_words("unwrap", names=("some.wrapped", "link")), line(key))
+    if not os.path.islink(place.at("link")) or os.stat(place.at("out")).st_mode & 0o7777 != 0o600:
+        raise Wrong("OUT's permissions or the link to it were lost")
+    os.remove(place.at("link"))
+    os.remove(place.at("out"))
+    place.works("a new OUT under a umask", wrap_words(**unwrap), line(key), preexec_fn=lambda: os.umask(0o077))
+    if os.stat(place.at("out")).st_mode & 0o7777 != 0o600:
+        raise Wrong("a new OUT doesn't heed the umask")
+    # the key that came back
+    expected = modes.ctr_crypt(labyrinth.Labyrinth(1, key), bytes.fromhex(START), 0, page)
+    place.works("a page sealed with the unwrapped key", words(key="out", names=("page", "-")), expected, out="-")
+    os.remove(place.at("out"))
+    for bit in range(8 * len(secret)):
+        other = bytes(byte ^ (1 << bit % 8 if i == bit // 8 else 0) for i, byte in enumerate(secret))
+        place.fails(f"bit {bit} altered", 4, f"standard input: {NOT_WRAPPED}", wrap_words("unwrap", names=("-", "out")), given=line(other))
+    place.write("other.key", flipped(bytes.fromhex(KEY)).hex().encode())
+    place.fails("another master key", 4, f"some.wrapped: {NOT_WRAPPED}", wrap_words(**unwrap, key="other.key"))
+    place.fails("another l", 1, "refused with 3:", wrap_words(**unwrap, l=3))
+    place.write("some.wrapped", place.read("some.key") + b"0" * 16)
+    place.fails("a key that isn't wrapped", 4, f"some.wrapped: {NOT_WRAPPED}", wrap_words(**unwrap))
+    for extra in ("some.key", "some.wrapped", "other.key"):
+        os.remove(place.at(extra))
+
+
+def wrap_refusals(place):
+    """Status 1: the numbers in their order, 2 and 3 before IN is looked for; and every length of a key."""
+    place.write("other.key", some_key(24).hex().encode())
+    for way in ("wrap", "unwrap"):
+        for l in (0, 1, 5, 258, (1 << 32) + 2, 1 << 61, (1 << 64) - 1, 10**30):
+            place.refuses(f"{way}, l = {l}", 2, wrap_words(way, l=l))
+        for count in (0, 15, 17, 32):
+            place.write("master.key", b"ab" * count)
+            place.refuses(f"{way}, a master key of {count} bytes", 3, wrap_words(way, key="master.key"))
+        missing = dict(names=("missing", "out"))
+        place.refuses(f"{way}, 2 before 3", 2, wrap_words(way, l=9, key="master.key", **missing))
+        place.refuses(f"{way}, 3 before IN", 3, wrap_words(way, key="master.key", **missing))
+        place.write("in", some_key(8).hex().encode())
+        place.refuses(f"{way}, 2 before 17", 2, wrap_words(way, l=9, names=("in", "out")))
+        place.refuses(f"{way}, 3 before 17", 3, wrap_words(way, key="master.key", names=("in", "out")))
+        place.refuses(f"{way}, 17 before OUT", 17, wrap_words(way, names=("in", "none/out")), out=None)
+        for count in range(145):
+            place.write("in", some_key(count).hex().encode())
+            case = wrap_words(way, names=("in", "out"))
+            if count not in (papers.UNWRAPPED_LENGTHS if way == "wrap" else papers.WRAPPED_LENGTHS):
+                place.refuses(f"{way}, {count} bytes", 17, case)
+            elif way == "unwrap":
+                place.fails(f"{count} bytes that aren't wrapped", 4, NOT_WRAPPED, case)
+            else:
+                place.works(f"{count} bytes", case, line(wrapped(some_key(count))))
+                os.remove(place.at("out"))
+        place.fails(f"{way}, the message", 1, "(IN holds 144 bytes)", wrap_words(way, names=("in", "out")))
+    for name in ("other.key", "master.key", "in"):
+        os.remove(place.at(name))
+
+
+def wrap_usage(place):
+    """Status 2."""
+    key, secret = some_key(16), wrapped(some_key(16))
+    place.write("other.key", key.hex().encode())
+    place.write("some.wrapped", line(secret))
+    for way, name in (("wrap", "other.key"), ("unwrap", "some.wrapped")):
+        good = wrap_words(way, names=(name, "out"))
+        for option in ("-l", "--key-file"):
+            i = good.index(option)
+            place.fails(f"{way}, no {option}", 2, f"{option} is missing", good[:i] + good[i + 2 :])
+            place.fails(f"{way}, {option} twice", 2, "twice", good + good[i : i + 2])
+        for option in ("--mode", "-n", "--start", "--offset", "--length", "--tag"):
+            place.fails(f"{way} with {option}", 2, f"'{way}' takes no {option}", [*good, option, "1"])
+        place.fails(f"n for {way}", 2, "a wrapped key is always at n = 1", [*good, "-n", "1"])
+        place.fails(f"{way}, no OUT", 2, "where IN and OUT are wanted", good[:-1])
+        place.fails(f"{way}, a word too many", 2, "where IN and OUT are wanted", [*good, "more"])
+        place.fails(f"{way}, an empty name", 2, "name is empty", [*good[:-1], ""])
+        place.fails(f"{way}, key and IN from one stream", 2, "standard input", wrap_words(way, key="-", names=("-", "out")))
+        place.fails(f"{way}, set and IN from one stream", 2, "only one can come from standard input", wrap_words(way, names=("-", "out"), tables="-"))
+        for what, says, text in (
+            ("odd digits", "odd number of hexadecimal digits (31)", KEY[:31]), ("no digits", "character 5 ", KEY[:4] + "x" + KEY[5:]),
+            ("0x", "character 2 ", "0x" + KEY), ("a long file", "more than 65536 bytes", "00" * 32769),
+        ):  # fmt: skip
+            place.write("wrong.key", text.encode())
+            place.fails(f"{way}, {what} in IN", 2, "key file wrong.key", wrap_words(way, names=("wrong.key", "out")))
+            place.fails(f"{way}, {what} in IN", 2, says, wrap_words(way, names=("wrong.key", "out")))
+            place.fails(f"{way}, {what} in the master key's file", 2, says, wrap_words(way, key="wrong.key", names=(name, "out")))
+        # one file twice
+        before = place.read(name)
+        os.link(place.at(name), place.at("hard"))
+        os.symlink(name, place.at("soft"))
+        for other in (name, "./" + name, "hard", "soft"):
+            place.fails(f"{way}, IN is OUT by {other}", 2, "one file", wrap_words(way, names=(name, other)), out=other)
+        with open(place.at(name), "ab") as file:
+            place.fails(f"{way}, standard output is IN", 2, "one file", wrap_words(way, names=(name, "-")), out="-", stdout=file)
+        place.fails(f"{way}, the key file is OUT", 2, "OUT is the key file", wrap_words(way, names=(name, "key")), out="key")
+        place.write("some.set", b"".join(archivists_sets.PUBLISHED))
+        place.fails(f"{way}, the set file is OUT", 2, "OUT is the set file", wrap_words(way, names=(name, "some.set"), tables="some.set"), out="some.set")
+        if place.read(name) != before or place.read("key") != KEY.encode() or place.read("some.set") != b"".join(archivists_sets.PUBLISHED):
+            raise Wrong("a key or a set was replaced")
+        for extra in ("hard", "soft", "wrong.key", "some.set"):
+            os.remove(place.at(extra))
+    for name in ("other.key", "some.wrapped"):
+        os.remove(place.at(name))
+
+
+def wrap_files(place):
+    """Status 3."""
+    place.write("other.key", some_key(16).hex().encode())
+    place.write("some.wrapped", line(wrapped(some_key(16))))
+    os.mkdir(place.at("directory"))
+    os.mkfifo(place.at("fifo"))
+    os.symlink("nowhere", place.at("dangling"))
+    place.write("locked", b"")
+    os.chmod(place.at("locked"), 0o000)
+    for way, name in (("wrap", "other.key"), ("unwrap", "some.wrapped")):
+        place.fails(f"{way}, no key file", 3, "missing.key", wrap_words(way, key="missing.key", names=(name, "out")))
+        place.fails(f"{way}, no set file", 3, "missing.set", wrap_words(way, names=(name, "out"), tables="missing.set"))
+        for other in ("missing", "."):
+            place.fails(f"{way}, IN is {other}", 3, f"labyrinth: {other}: ", wrap_words(way, names=(other, "out")))
+        place.fails(f"{way}, IN that can't be read", 3, "ermission denied", wrap_words(way, names=("locked", "out")), **somebody())
+        for other in ("directory", "fifo", "dangling", "/dev/null", "none/out", "other.key/out", "x" * 300):
+            place.fails(f"{way}, OUT is {other}", 3, f"labyrinth: {other}: ", wrap_words(way, names=(name, other)), out=other)
+        os.chmod(place.at("directory"), 0o555)
+        inside = wrap_words(way, names=(name, "directory/out"))
+        place.fails(f"{way}, OUT where none can be written", 3, "ermission denied", inside, out="directory/out", **somebody())
+        os.chmod(place.at("directory"), 0o777)
+        if os.listdir(place.at("directory")):
+            raise Wrong("something was written where it may not")
+        with open("/dev/full", "wb") as full:
+            place.fails(f"{way}, no room behind standard output", 3, "standard output", wrap_words(way, names=(name, "-")), out="-", stdout=full)
+        none = lambda: resource.setrlimit(resource.RLIMIT_FSIZE, (8, 8))
+        place.fails(f"{way}, no room for OUT", 3, "labyrinth: out: ", wrap_words(way, names=(name, "out")), preexec_fn=none)
+    os.rmdir(place.at("directory"))
+    for extra in ("other.key", "some.wrapped", "fifo", "dangling", "locked"):
+        os.remove(place.at(extra))
+
+
 def forms(place):
     """Ways to write one thing."""
     page = place.read("page")
@@ -375,10 +576,11 @@ def forms(place):
 
 
 def help_page(place):
-    """The card and the lines in the help tag, verify and open a page that the archivists' program sealed and tagged so."""
+    """The card and the lines in the help tag, verify and open a page that the archivists' program sealed and tagged so; and a key is wrapped and
+    unwrapped by its lines."""
     text = place.run(["--help"]).stdout.decode()
-    forms = re.findall(r"^    (labyrinth (?:seal|tag|verify).* IN.*)$", text, re.M)
-    if len(forms) != 3 or any(form not in place.run([]).stderr.decode() for form in forms):
+    forms = re.findall(r"^    (labyrinth (?:seal|tag|verify|wrap).* IN.*)$", text, re.M)
+    if len(forms) != 4 or any(form not in place.run([]).stderr.decode() for form in forms):
         raise Wrong("the help and the usage message differ")
     n, l, start, q = re.search(r"n = (\d), l = (\d), CTR, start block ([0-9a-f ]+), q = (\d+),", text).groups()
     key = re.search(r"^ +key ([0-9a-f ]+)$", text, re.M).group(1)
@@ -404,7 +606,12 @@ def help_page(place):
     place.write("page.sealed", flipped(secret))
     place.fails("the help's lines on an altered page", 4, "page.sealed: no: altered", ["-c", both], out=None, **shell)
     os.rename(place.at("kept"), place.at("page"))
-    for name in ("card.key", "tag.key", "page.sealed"):
+    wrap, unwrap = (re.search(rf"^ +labyrinth ({way} -l 4 .*)$", text, re.M).group(1) for way in ("wrap", "unwrap"))
+    place.write("master.key", KEY.encode() * 2)
+    place.works("the help's line to wrap", shlex.split(wrap), line(wrapped(bytes.fromhex(key), KEY * 2)), out="card.wrapped")
+    place.write("card.key", b"")
+    place.works("the help's line to unwrap", shlex.split(unwrap), line(bytes.fromhex(key)), out="card.key")
+    for name in ("card.key", "tag.key", "page.sealed", "master.key", "card.wrapped"):
         os.remove(place.at(name))
     with open("/dev/full", "wb") as full:
         place.fails("help to a full disk", 3, "standard output", ["--help"], out="-", stdout=full)
@@ -420,12 +627,14 @@ def set_cases():
                 cipher = labyrinth.Labyrinth(n, key)
                 pages = [("cbc", None, plain, modes.cbc_encrypt(cipher, start, plain)), ("ctr", i, plain[:-5], modes.ctr_crypt(cipher, start, i, plain[:-5]))]
                 tag = modes.cmac(cipher, plain, 8 + j) if n == 1 else None
-            yield tables, n, l, key, start, pages, plain, tag
+                secret = modes.kw_wrap(cipher, plain[: 16 + 8 * j]) if n == 1 else None
+            yield tables, n, l, key, start, pages, plain, tag, secret
 
 
 def sets(place, alter=lambda data: data):
-    """Pages and tags with other tables, from a set file of bytes and from one of digits; with other tables, or the published ones, they differ."""
-    for tables, n, l, key, start, pages, plain, tag in set_cases():
+    """Pages, tags and wrapped keys with other tables, from a set file of bytes and from one of digits; with other tables, or the published ones, they
+    differ."""
+    for tables, n, l, key, start, pages, plain, tag, wrapped_key in set_cases():
         raw = b"".join(tables)
         text = "\n".join(raw.hex(" ", 4)[at : at + 36].upper() for at in range(0, 594, 36)).encode()
         place.write("raw.set", raw)
@@ -444,6 +653,11 @@ def sets(place, alter=lambda data: data):
             place.works("a tag with other tables", tag_words(**case, value=len(tag), tables="raw.set"), alter(tag).hex().encode() + b"\n", out="-", given=plain)
             place.works("verified", tag_words("verify", **case, value=alter(tag).hex(), tables="text.set"), b"", out="-", given=plain)
             place.fails("by the published tables", 4, "no: altered", tag_words("verify", **case, value=tag.hex()), out=None, given=plain)
+            short = plain[: len(wrapped_key) - 8]
+            case = dict(l=l, key="set.key", names=("-", "-"))
+            place.works("a key wrapped with other tables", wrap_words(**case, tables="raw.set"), line(alter(wrapped_key)), out="-", given=line(short))
+            place.works("unwrapped", wrap_words("unwrap", **case, tables="text.set"), line(alter(short)), out="-", given=line(wrapped_key))
+            place.fails("unwrapped by the published tables", 4, NOT_WRAPPED, wrap_words("unwrap", **case), out=None, given=line(wrapped_key))
     for name in ("raw.set", "text.set", "set.key"):
         os.remove(place.at(name))
 
@@ -475,6 +689,8 @@ def set_files(place):
             place.refuses(f"a set of {what}", number, case)
         for way, value in (("tag", None), ("verify", "00" * 16)):
             place.refuses(f"{way} by a set of {what}", number, tag_words(way, l=9, value=value, tables="digits.set"), out=None)
+        for way in ("wrap", "unwrap"):
+            place.refuses(f"{way} by a set of {what}", number, wrap_words(way, l=9, names=("missing", "out"), tables="digits.set"))
         place.fails(f"bytes of {what}", 1, f"refused with {number}: ", words(tables="bytes.set"))
     place.write("digits.set", twice.hex().encode())
     place.fails("which bytes are equal", 1, f"bytes 0 and 255 of the substitution, from 0 on, are both {other[0]:02x}", words(tables="digits.set"))
@@ -722,18 +938,19 @@ def main():
         held = place.names()
         try:
             tag_parts = (tag_vectors, tag_forms, altered_pages, tag_refusals, tag_usage, tag_files)
-            for part in (vectors, forms, help_page, refusals, usage, files, ended, progress, *tag_parts, sets, set_files):
+            wrap_parts = (wrap_vectors, wrap_forms, wrap_refusals, wrap_usage, wrap_files)
+            for part in (vectors, forms, help_page, refusals, usage, files, ended, progress, *tag_parts, *wrap_parts, sets, set_files):
                 part(place)
                 if place.names() != held:
                     raise Wrong(f"{part.__name__} left {place.names()}")
             count = place.count
-            for part in (vectors, tag_vectors, sets):
+            for part in (vectors, tag_vectors, wrap_vectors, sets):
                 altered(Place(tempfile.mkdtemp(dir=path)), part)
         except Wrong as wrong:
             sys.exit(f"command: FAILED: {wrong}")
     if count != COUNT:
         sys.exit(f"command: FAILED: {count} checks, not {COUNT}")
-    print(f"command: {count} checks, and an altered byte or tag is noticed")
+    print(f"command: {count} checks, and an altered byte, tag or key is noticed")
 
 
 if __name__ == "__main__":

@@ -34,7 +34,9 @@ ADAPTER = f"{shlex.quote(sys.executable)} {shlex.quote(os.path.join(HERE, 'archi
 LIMIT = 1500  # seconds for a program
 
 BLOCKS, CBC, CTR, TAGS = ("encipher", "decipher"), ("cbc_seal", "cbc_open"), ("ctr",), ("cmac", "cmac_verify")  # and mix, mix_row
-OPERATIONS = BLOCKS + CBC + CTR + TAGS
+WRAPS = ("wrap", "unwrap")
+ONE = TAGS + WRAPS  # where n is 1
+OPERATIONS = BLOCKS + CBC + CTR + ONE
 LARGE = 2**64 - 1  # SIZE_MAX
 # some are legal once cut to 8, 16 or 32 bits, or give a legal 8n or 16n modulo 2^64
 DEMANDED = (0, 3, 8, 2**32 + 1, LARGE)
@@ -42,14 +44,20 @@ WRONG_N = (*DEMANDED, 5, 6, 7, 16, 2**8 + 1, 2**16 + 2, 2**32, 2**32 + 2, 2**32 
 WRONG_L = (*(x for x in DEMANDED if x != 3), 1, 5, 6, 2**8 + 2, 2**16 + 3, 2**32 + 2, 2**32 + 3, 2**60 + 2, 2**61 + 3, 2**63 + 4)
 NEUTRAL, ZERO = b"\1" + bytes(7), bytes(8)
 
-# a tag's message is the source, and the tag, made or given, the destination; n is 1; kind is how a given tag was made
+# a tag's message is the source, and the tag, made or given, the destination; n is 1; kind is how a given tag, or a key to be unwrapped, was made
 Case = collections.namedtuple("Case", "op n l key start q source destination kind", defaults=[None])
 KINDS = ("right", "one bit flipped", "right in the first bytes", "from the second byte on", "of another key", "of another message")
+WRAPPED = ("right", "one bit flipped", "wrapped with another key", "any bytes")
 Mix = collections.namedtuple("Mix", "op word row", defaults=[PUBLISHED])
 
 
 def sizes(op):
-    return SIZES[:3] if op in TAGS else SIZES
+    return SIZES[:3] if op in ONE else SIZES
+
+
+def key_lengths(op):
+    """Of sources."""
+    return papers.UNWRAPPED_LENGTHS if op == "wrap" else papers.WRAPPED_LENGTHS
 
 
 def flipped(data, rng):
@@ -67,7 +75,8 @@ def number_of(case):
         return 0
     if case.op == "mix_row":
         return papers.mixing_through_c(case.row)
-    return papers.through_c(case.op, case.n, case.l, *map(len, (case.key, case.start, case.source, case.destination)))
+    number = papers.through_c(case.op, case.n, case.l, *map(len, (case.key, case.start, case.source, case.destination)))
+    return 18 if number == 0 and case.op == "unwrap" and case.kind != "right" else number
 
 
 # ---- the cases
@@ -130,35 +139,48 @@ class Maker:
             tag = tag[:keep] + bytes(byte ^ self.rng.randrange(1, 256) for byte in tag[keep:])
         return case._replace(destination=tag, kind=kind)
 
+    def wrapped(self, case, kind):
+        """The case with a source of this kind, if there are wrapped keys of its length under its key."""
+        if papers.expansion(1, case.l, len(case.key)) or len(case.source) not in key_lengths("unwrap"):
+            return case._replace(kind="any bytes")
+        key = flipped(case.key, self.rng) if kind == "wrapped with another key" else case.key
+        if kind != "any bytes":
+            case = case._replace(source=modes.kw_wrap(labyrinth.Labyrinth(1, key), case.source[8:]))
+        return case._replace(source=flipped(case.source, self.rng) if kind == "one bit flipped" else case.source, kind=kind)
+
     def case(self, op, n, l, source, damage=(), n_lengths=None, l_lengths=None, tag=None, kind=None):
         """A case whose lengths are right for n and l, or for n_lengths and l_lengths, apart from what is damaged."""
         m, c = n_lengths or n, l_lengths or l
-        key, start = 8 * m * c, 0 if op in BLOCKS + TAGS else 16 * m
+        key, start = 8 * m * c, 0 if op in BLOCKS + ONE else 16 * m
         if "key" in damage:
             key = self.wrong(key)
         if "start" in damage:
             start = self.wrong(start)
         if "source" in damage:
-            source = self.wrong(source) if op in BLOCKS else source + self.rng.randrange(1, 16 * m)
-        destination = 16 * m if op in BLOCKS else source
+            source = self.wrong(source) if op in BLOCKS else source + self.rng.randrange(1, 8 if op in WRAPS else 16 * m)
+        destination = 16 * m if op in BLOCKS else source + 8 if op == "wrap" else max(source - 8, 0) if op == "unwrap" else source
         if op in TAGS:
             destination = self.pick(*papers.TAG_LENGTHS) if tag is None else tag
         if "destination" in damage:
             destination = self.pick(0, 1, 6, 7, 17, 18, 24, 32, 256 + destination) if op in TAGS else self.wrong(destination)
         q = self.q() if op in CTR else 0
         made = Case(op, n, l, self.data(key), self.start(op, start), q, self.data(source), self.data(destination))
-        return self.given(made, kind or self.pick("right", "right", "right", *KINDS)) if op == "cmac_verify" else made
+        if op == "cmac_verify":
+            return self.given(made, kind or self.pick("right", "right", "right", *KINDS))
+        return self.wrapped(made, kind or self.pick("right", "right", "right", *WRAPPED)) if op == "unwrap" else made
 
     def length(self, op, n, most):
         """A source's length that op admits."""
         if op in BLOCKS:
             return 16 * n
+        if op in WRAPS:
+            return self.pick(*key_lengths(op))
         return 16 * n * self.rng.randrange(most + 1) if op in CBC else self.rng.randrange(16 * n * most + 1)
 
     def damaged(self):
         """Every set of damages at every size; the empty set is a valid case."""
         for op in OPERATIONS:
-            own = [] if op in TAGS else ["n"] + ["start"] * (op not in BLOCKS) + ["source"] * (op not in CTR)
+            own = [] if op in TAGS else ["source"] if op in WRAPS else ["n"] + ["start"] * (op not in BLOCKS) + ["source"] * (op not in CTR)
             parts = ["l", "key", "destination"] + own
             for n, l in sizes(op):
                 for which in range(2 ** len(parts)):
@@ -169,7 +191,7 @@ class Maker:
     def numbers(self):
         """Every wrong n with every l, and every wrong l: all lengths fit a size that such a number may be mistaken for."""
         for op in OPERATIONS:
-            for n in (1,) if op in TAGS else (1, 2, 4, *WRONG_N):
+            for n in (1,) if op in ONE else (1, 2, 4, *WRONG_N):
                 for l in (2, 3, 4, *WRONG_L):
                     if n in WRONG_N or l in WRONG_L:
                         m = n if n <= 16 else n % 16 if n % 16 in (1, 2, 4) else self.pick(1, 2, 4)
@@ -179,7 +201,7 @@ class Maker:
     def far_lengths(self):
         """One length too long by 65,536."""
         for op in OPERATIONS:
-            for part in ("key", "destination") if op in TAGS else ("key", "start", "source", "destination"):
+            for part in ("key", "destination") if op in TAGS else ("key", "source", "destination") if op in WRAPS else ("key", "start", "source", "destination"):
                 n, l = self.pick(*sizes(op))
                 good = self.case(op, n, l, self.length(op, n, 3))
                 yield good._replace(**{part: getattr(good, part) + bytes(65536)})
@@ -211,6 +233,14 @@ class Maker:
                     for _ in self.some(8, 1):
                         yield self.case(op, n, l, self.rng.randrange(49), tag=length, kind=kind)
 
+    def wraps(self):
+        """Every length of a key to 144 bytes, refused ones too, and what is to be unwrapped in every kind."""
+        for n, l in sizes("wrap"):
+            for length in range(145):
+                for op, kind in [("wrap", None), *(("unwrap", kind) for kind in (WRAPPED if length in key_lengths("unwrap") else WRAPPED[:1]))]:
+                    for _ in self.some(3, 1):
+                        yield self.case(op, n, l, length, kind=kind)
+
     def long(self):
         for op in CBC + CTR + TAGS:
             for n, l in sizes(op):
@@ -225,10 +255,10 @@ class Maker:
             op = self.pick(*OPERATIONS)
             n, l = self.pick(*sizes(op))
             damage = [part for part in ("key", "start", "source", "destination") if self.rng.randrange(6) == 0]
-            if op in BLOCKS + TAGS:
+            if op in BLOCKS + ONE:
                 damage = [part for part in damage if part != "start"]
             given = self.pick(n, n, n, n, n, n, *WRONG_N[:5], self.rng.getrandbits(64)), self.pick(l, l, l, l, l, l, *DEMANDED, self.rng.getrandbits(64))
-            yield self.case(op, n if op in TAGS else given[0], given[1], self.length(op, n, 6), damage, n, l)
+            yield self.case(op, n if op in ONE else given[0], given[1], self.length(op, n, 6), damage, n, l)
 
     def word(self):
         return self.rng.getrandbits(64)
@@ -257,7 +287,7 @@ class Maker:
             yield Mix("mix_row", given, row)
 
     def all(self):
-        for series in (self.damaged, self.numbers, self.far_lengths, self.valid, self.near, self.tags, self.long, self.anyhow, self.words, self.rows):
+        for series in (self.damaged, self.numbers, self.far_lengths, self.valid, self.near, self.tags, self.wraps, self.long, self.anyhow, self.words, self.rows):
             yield from series()
 
 
@@ -266,7 +296,7 @@ def request(case):
         return f"mix {case.word:016x}\n"
     if case.op == "mix_row":
         return f"mix_row {case.row.hex() or '-'} {case.word:016x}\n"
-    fields = [case.op] + [case.n] * (case.op not in TAGS) + [case.l, case.key]
+    fields = [case.op] + [case.n] * (case.op not in ONE) + [case.l, case.key]
     if case.op in CBC + CTR:
         fields.append(case.start)
     if case.op in CTR:
@@ -280,13 +310,17 @@ def gaps(cases, numbers):
     have = {(case.op, case.n, case.l, number) for case, number in zip(cases, numbers) if case.op in OPERATIONS}
     need = set()
     for op in OPERATIONS:
-        own = {11} if op in TAGS else {4, 5} if op in BLOCKS else {6, 5} if op in CTR else {6, 4, 5}
+        own = {11} if op in TAGS else {17, 5, 18} if op == "unwrap" else {17, 5} if op in WRAPS else {4, 5} if op in BLOCKS else {6, 5} if op in CTR else {6, 4, 5}
         need |= {(op, n, l, number) for n, l in sizes(op) for number in {0, 3} | own}
         need |= {(op, n, l, 2) for n, _ in sizes(op) for l in DEMANDED if l != 3}
-        need |= {(op, n, l, 1) for n in DEMANDED for l in (2, 3, 4) if op not in TAGS}
+        need |= {(op, n, l, 1) for n in DEMANDED for l in (2, 3, 4) if op not in ONE}
     have |= {(case.op, case.l, len(case.destination), case.kind) for case in cases if case.op in TAGS}
     need |= {("cmac_verify", l, length, kind) for l in (2, 3, 4) for length in papers.TAG_LENGTHS for kind in KINDS}
     need |= {(op, l, length, kind) for op, kind in (("cmac", None), ("cmac_verify", "right")) for l in (2, 3, 4) for length in range(20)}
+    have |= {(case.op, case.l, len(case.source), case.kind) for case in cases if case.op in WRAPS}
+    need |= {("wrap", l, length, None) for l in (2, 3, 4) for length in range(145)}
+    need |= {("unwrap", l, length, kind) for l in (2, 3, 4) for length in key_lengths("unwrap") for kind in WRAPPED}
+    need |= {("unwrap", l, length, "any bytes") for l in (2, 3, 4) for length in range(145)}
     rows = {(case.row, number) for case, number in zip(cases, numbers) if case.op == "mix_row"}
     have |= {("mix_row", len(row), number) for row, number in rows} | {("mix_row", row.hex(), number) for row, number in rows}
     have |= {("mix_row", 8 - row.count(0), "coefficients, and XOR to zero") for row, number in rows if number == 13}
@@ -339,6 +373,8 @@ def ask_theirs(command, cases, requests, admitted, place):
     """The answers by the case's number. The requests are dealt out, the long ones first, so that all processes have as much to do."""
     def cost(i):
         case = cases[i]
+        if case.op in WRAPS:
+            return len(case.source) * 3 // 4
         return 1 + len(case.source) // (16 * case.n) * (2 if case.n == 4 else 1) if case.op in OPERATIONS else 1
 
     count = os.cpu_count() or 1

@@ -187,6 +187,16 @@ TAGS = [
     (1, 0, 8), (1, 1, 8), (1, 15, 16), (1, 16, 8), (1, 16, 16), (1, 17, 15), (1, 32, 9), (1, 255, 12),
 ]
 
+# keys wrapped and unwrapped under such a key, with the lengths of the source and the destination
+WRAPS = [
+    (0, 16, 24), (3, 16, 24), (8, 24, 16), (LARGE, 16, 24), ((1 << 32) + 1, 24, 16), (3, 0, 0),
+    (2, 16, 24), (4, 24, 16), (2, 15, 24), (4, 0, 0), (2, 128, 135),
+    (1, 0, 8), (1, 0, 0), (1, 1, 9), (1, 7, 15), (1, 8, 16), (1, 8, 0), (1, 9, 1), (1, 15, 23), (1, 17, 25), (1, 20, 12), (1, 23, 15), (1, 25, 33),
+    (1, 127, 135), (1, 129, 137), (1, 135, 127), (1, 137, 129), (1, 144, 152), (1, 144, 136), (1, 17, 17),
+    (1, 16, 16), (1, 16, 23), (1, 16, 25), (1, 16, 0), (1, 24, 24), (1, 24, 15), (1, 24, 17), (1, 24, 0), (1, 128, 128), (1, 136, 136),
+    (1, 16, 24), (1, 24, 16), (1, 16, 8), (1, 24, 32), (1, 32, 40), (1, 40, 32), (1, 128, 136), (1, 128, 120), (1, 136, 128), (1, 136, 144),
+]
+
 # what a destination holds before, and what keys, start blocks, sources and messages are of where only their lengths are told
 DESTINATION, SOURCE = b"\x5a", b"\xa5"
 
@@ -287,6 +297,37 @@ def verify():
         yield given(n, 0, start=DESTINATION * tag, source=SOURCE * length), f"{answer} {answer * min(8 * tag, 128)}"
     for v in tag_vectors():
         yield given_vector(v, v["msg"], 0, start=v["tag"]), f"01 {'00' * 8 * v['taglen']}"
+
+
+# document 02, Job 8
+
+
+def wrap():
+    for n, length, destination in WRAPS:
+        key = SOURCE * length
+        made = answered(papers.wrapping(n, length, destination), lambda: modes.kw_wrap(by_hand(n), key), destination)
+        yield given(n, 0, source=key, destination=destination), made
+    for v in found("kw", 30):
+        yield given_vector(v, v["pt"], len(v["ct"]) // 2), f"0 {v['ct']}"
+
+
+def unwrap():
+    """Bytes alike are no wrapped key, nor is a vector with a bit altered; one wrapped under the key by hand is."""
+    made = lambda n, source: modes.kw_unwrap(by_hand(n), source)
+    for n, length, destination in WRAPS:
+        sources = [SOURCE * length]
+        if n == 1 and length in papers.WRAPPED_LENGTHS:
+            sources.append(modes.kw_wrap(by_hand(n), SOURCE * (length - 8)))
+        for source in sources:
+            number = papers.unwrapping(n, length, destination, right=lambda: made(n, source) is not None)
+            yield given(n, 0, source=source, destination=destination), answered(number, lambda: made(n, source), destination)
+    vectors = found("kw", 30)
+    for at, v in enumerate(vectors):
+        other = bytearray.fromhex(v["ct"])
+        other[7 * at % len(other)] ^= 1 << at % 8
+        yield given_vector(v, other.hex(), len(v["pt"]) // 2), answered(18, None, len(v["pt"]) // 2)
+    for v in vectors:
+        yield given_vector(v, v["ct"], len(v["pt"]) // 2), f"0 {v['pt']}"
 
 
 # ---- the tape
@@ -404,6 +445,8 @@ KINDS = [
     ("cmac make", make, 308),
     ("cmac verify", verify, 308),
     ("step", step, 136),
+    ("key wrap", wrap, 80),
+    ("key unwrap", unwrap, 124),
 ]
 
 

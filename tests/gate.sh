@@ -85,6 +85,9 @@ tell archivists "tests/archivists was altered"
 # ---- the expected outputs are the archivists'
 tell compare "the comparison with the archivists"
 
+# ---- the worked values of key wrapping, by the archivists' program
+tests/worked.py || fail "the worked values of key wrapping"
+
 # ---- the judge of rows, by determinants and by counting
 tell judge "the judge of rows"
 

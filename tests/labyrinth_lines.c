@@ -181,6 +181,7 @@ typedef uint8_t block_fn(const uint8_t *, size_t, const uint8_t *, size_t, const
 static const struct { const char *name; block_fn *fn; } BLOCKS[] = {
     {"key_encipher", labyrinth_key_encipher}, {"key_encipher_by_matrix", labyrinth_key_encipher_by_matrix},
     {"key_decipher", labyrinth_key_decipher}, {"key_decipher_by_matrix", labyrinth_key_decipher_by_matrix},
+    {"key_wrap", labyrinth_key_wrap}, {"key_unwrap", labyrinth_key_unwrap},
 };
 
 /* fields: the operation, the store, the working key, then source and destination, or message and tag; what yes points to as above */
@@ -220,6 +221,22 @@ static void key_run(char **fields, int is_ctr) {
     take_back(dst, 1);
 }
 
+/* fields: the operation, l, key, then source and destination: the key is expanded for set 0 of a fresh store; a refused one answers its number */
+static void wrap(char **fields) {
+    static uint8_t fresh[1072], expanded[272];
+    size_t l = number(fields[1]);
+    struct lent key = lend(fields[2]), src = lend(fields[3]), dst = lend(fields[4]);
+    uint8_t r = labyrinth_store_fresh(fresh, sizeof fresh);
+    if (r == 0) r = labyrinth_expand(fresh, sizeof fresh, 1, l, 0, key.pointer, key.length, expanded, sizeof expanded);
+    if (r == 0)
+        r = (strcmp(fields[0], "wrap") == 0 ? labyrinth_key_wrap : labyrinth_key_unwrap)(fresh, sizeof fresh, expanded, sizeof expanded,
+                                                                                      src.pointer, src.length, dst.pointer, dst.length);
+    answer(r, dst);
+    take_back(key, 0);
+    take_back(src, 0);
+    take_back(dst, 1);
+}
+
 int main(void) {
     char *line = NULL;
     size_t room = 0;
@@ -237,6 +254,7 @@ int main(void) {
         else if (count == 7 && strcmp(fields[0], "key_ctr") == 0) key_run(fields, 1);
         else if (count == 5 && strncmp(fields[0], "key_", 4) == 0) key_block_or_tag(fields);
         else if (count == 3 && strcmp(fields[0], "mix_row") == 0) mix_row(fields[1], fields[2]);
+        else if (count == 5 && (strcmp(fields[0], "wrap") == 0 || strcmp(fields[0], "unwrap") == 0)) wrap(fields);
         else if (count == 5 && (strcmp(fields[0], "cmac") == 0 || strcmp(fields[0], "cmac_verify") == 0)) tag(fields);
         else if (count == 6 && (strcmp(fields[0], "encipher") == 0 || strcmp(fields[0], "decipher") == 0)) one_block(fields);
         else if (count == 7 && (strcmp(fields[0], "cbc_seal") == 0 || strcmp(fields[0], "cbc_open") == 0)) run(fields, 0);

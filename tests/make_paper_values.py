@@ -19,6 +19,7 @@ HERE = os.path.dirname(os.path.abspath(__file__))
 PAPER = os.path.join(os.path.dirname(HERE), "docs", "OPENING-A-PAGE.md")
 sys.path[:0] = [os.path.join(HERE, "archivists"), HERE]
 import archivists_sets
+import archivists_wraps
 import labyrinth as lab
 import modes
 import papers
@@ -457,6 +458,139 @@ def card_tag():
     yield from (f"tag-l      {len(CARD_TAG_KEY) // 8}", f"tag-key    {digits(CARD_TAG_KEY)}", "tagged     the sealed page")
 
 
+# ---- wrapped keys
+
+class Wraps:
+    """KW under a master key in the paper's steps, with the archivists' block map. A wrong reading exchanges parts of them."""
+
+    check, late = modes.ICV1, True
+
+    def __init__(self, key):
+        self.cipher = lab.Labyrinth(1, key)
+
+    def enciphered(self, block):
+        return self.cipher.encrypt_block(block)
+
+    def deciphered(self, block):
+        return self.cipher.decrypt_block(block)
+
+    def turned(self, block):
+        """What is done to the block that E is given, and undone for U."""
+        return block
+
+    def halved(self, block):
+        """What is done to the block that E gives."""
+        return block
+
+    def count(self, m):
+        return 6 * m
+
+    def number(self, t, m):
+        return t.to_bytes(8, "big")
+
+    def step(self, t, a, r):
+        number = self.number(t, len(r))
+        block = self.halved(self.enciphered(self.turned((a if self.late else modes.xor(a, number)) + r[0])))
+        return modes.xor(block[:8], number) if self.late else block[:8], [*r[1:], block[8:]]
+
+    def back(self, t, a, r):
+        number = self.number(t, len(r))
+        block = self.turned(self.deciphered(self.halved((modes.xor(a, number) if self.late else a) + r[-1])))
+        return block[:8] if self.late else modes.xor(block[:8], number), [block[8:], *r[:-1]]
+
+    def wrapped(self, key):
+        a, r = self.check, [key[at : at + 8] for at in range(0, len(key), 8)]
+        for t in range(1, self.count(len(r)) + 1):
+            a, r = self.step(t, a, r)
+        return a + b"".join(r)
+
+    def unwrapped(self, data):
+        a, r = data[:8], [data[at : at + 8] for at in range(8, len(data), 8)]
+        for t in range(self.count(len(r)), 0, -1):
+            a, r = self.back(t, a, r)
+        return b"".join(r) if a == self.check else None
+
+
+# l, the master key and the key: a key of each length that keys have
+KW_RUNS = tuple(
+    (2 + at % 3, bytes_of(f"master key {length}", 8 * (2 + at % 3)), bytes_of(f"wrapped key {length}", length))
+    for at, length in enumerate(sorted({8 * n * l for n, l in SIZES}))
+)
+KW_TRACED = KW_RUNS[1]
+KW_STEPS = 6  # that are shown in full
+
+
+@functools.cache
+def made_wrapped(master, key):
+    """The archivists' wrapped key; and the steps give it, both ways."""
+    wrapped = modes.kw_wrap(lab.Labyrinth(1, master), key)
+    if (Wraps(master).wrapped(key), Wraps(master).unwrapped(wrapped)) != (wrapped, key):
+        raise SystemExit("make_paper_values.py: the steps of KW are not KW")
+    return wrapped
+
+
+def trace_wrap():
+    """A and the R_i after each of the first steps, with what E was given and gave, and after the last."""
+    l, master, key = KW_TRACED
+    cipher = lab.Labyrinth(1, master)
+    states = archivists_wraps.states(cipher.encrypt_block, key)
+    yield f"kw l {l} key {len(key)}"
+    yield from byte_lines("master", master)
+    yield from byte_lines("key", key)
+    for t in (*range(KW_STEPS + 1), len(states) - 1):
+        yield from ("", f"step {t}")
+        if 0 < t <= KW_STEPS:
+            given = states[t - 1][:16]
+            yield from byte_lines("given", given)
+            yield from byte_lines("B", cipher.encrypt_block(given))
+        for at in range(0, len(states[t]), 8):
+            yield from byte_lines(f"R_{at // 8}" if at else "A", states[t][at : at + 8])
+
+
+def kw_vectors():
+    for at, (l, master, key) in enumerate(KW_RUNS):
+        yield from [""] * (at > 0)
+        yield f"kw l {l} key {len(key)}"
+        for name, data in (("master", master), ("key", key), ("wrapped", made_wrapped(master, key))):
+            yield from byte_lines(name, data)
+
+
+def refused_strings():
+    """The place of the master key among the records, and a string that is refused, with its number."""
+    wrapped = [made_wrapped(master, key) for _, master, key in KW_RUNS]
+    flip = lambda data, at, bit: data[:at] + bytes([data[at] ^ bit]) + data[at + 1 :]
+    check = type("Padded", (Wraps,), dict(check=bytes.fromhex("A65959A600000010")))
+    yield 0, flip(wrapped[0], 0, 0x80), 18
+    yield 0, flip(wrapped[0], len(wrapped[0]) - 1, 0x01), 18
+    yield 1, flip(wrapped[1], 13, 0x10), 18
+    yield 1, wrapped[1][8:] + wrapped[1][:8], 18
+    yield 0, check(KW_RUNS[0][1]).wrapped(KW_RUNS[0][2]), 18
+    yield 2, wrapped[0], 18
+    yield 0, wrapped[0][:-8], 17
+    yield 0, wrapped[0][:-1], 17
+    yield 0, wrapped[0] + b"\x00", 17
+
+
+def kw_refused():
+    for at, (place, data, number) in enumerate(refused_strings()):
+        l, master, _ = KW_RUNS[place]
+        yield from [""] * (at > 0)
+        yield f"refused l {l} bytes {len(data)} number {number}"
+        yield from byte_lines("master", master)
+        yield from byte_lines("string", data)
+
+
+CARD_MASTER = bytes_of("card master key", 32)
+
+
+def card_wrapped():
+    """The card's key, wrapped."""
+    wrapped = made_wrapped(CARD_MASTER, card_run()[2])
+    yield from (f"wrapped    {digits(wrapped[at : at + 16])}" for at in range(0, len(wrapped), 16))
+    yield f"master-l   {len(CARD_MASTER) // 8}"
+    yield from (f"master-key {digits(CARD_MASTER[at : at + 16])}" for at in range(0, len(CARD_MASTER), 16))
+
+
 # ---- the tape
 
 def word_to_08():
@@ -732,6 +866,47 @@ def wrong_tags():
         yield shown(number, list(words))
 
 
+def wrong_wraps():
+    """Wrong readings of KW: what each makes of the first record of 11.7. Each unwraps what it wrapped, and none makes a right wrapped key."""
+    def numbered(number):
+        return dict(number=number)
+
+    def exchanged(self, block):
+        return block[8:] + block[:8]
+
+    def from_the_end(self, t, a, r):
+        a, r = Wraps.step(self, t, a, r[::-1])
+        return a, r[::-1]
+
+    def from_the_start(self, t, a, r):
+        a, r = Wraps.back(self, t, a, r[::-1])
+        return a, r[::-1]
+
+    readings = (
+        numbered(lambda self, t, m: (t - 1).to_bytes(8, "big")),
+        numbered(lambda self, t, m: t.to_bytes(8, "little")),
+        numbered(lambda self, t, m: bytes(8)),
+        numbered(lambda self, t, m: ((t - 1) % m + 1).to_bytes(8, "big")),
+        numbered(lambda self, t, m: ((t - 1) // m + 1).to_bytes(8, "big")),
+        dict(late=False),
+        dict(count=lambda self, m: m),
+        dict(count=lambda self, m: 6 * (m + 1)),
+        dict(turned=exchanged),
+        dict(halved=exchanged),
+        dict(step=from_the_end, back=from_the_start),
+        dict(check=bytes.fromhex("A65959A600000010")),
+        dict(enciphered=Wraps.deciphered, deciphered=Wraps.enciphered),
+    )
+    first = len(list(wrong_readings())) + len(list(wrong_counters())) + len(list(wrong_tags())) + 1
+    for at, parts in enumerate(readings, first):
+        wrong = type("Wrong", (Wraps,), parts)
+        for l, master, key in KW_RUNS[:2]:
+            made = wrong(master).wrapped(key)
+            if made == made_wrapped(master, key) or wrong(master).unwrapped(made) != key:
+                raise SystemExit(f"make_paper_values.py: wrong reading {at} is not wrong, or does not come back")
+        yield f"{at}   {digits(wrong(KW_RUNS[0][1]).wrapped(KW_RUNS[0][2]))}"
+
+
 def values():
     traced = {n: (found(n, l, name)) for n, (l, name) in TRACED.items()}
     out = {
@@ -749,13 +924,18 @@ def values():
         "vectors-ctr": ctr_vectors(CTR_RUNS),
         "vectors-ctr-carry": ctr_vectors(CARRY_RUNS),
         "vectors-cmac": cmac_vectors(),
+        "trace-wrap": trace_wrap(),
+        "vectors-kw": kw_vectors(),
+        "vectors-kw-refused": kw_refused(),
         "card": card(),
         "card-tag": card_tag(),
         "card-tables": card_tables(),
+        "card-wrapped": card_wrapped(),
         "tape": tape(),
         "wrong-readings": wrong_readings(),
         "wrong-readings-ctr": wrong_counters(),
         "wrong-readings-cmac": wrong_tags(),
+        "wrong-readings-kw": wrong_wraps(),
     }
     for n in (2, 4):
         key, block, _ = traced[n]

@@ -2,7 +2,8 @@
 """tests/opener.py, a program written from docs/OPENING-A-PAGE.md's first edition alone, opens what our library sealed: random pages, all nine
 sizes, CBC and CTR, through target/dist/liblabyrinth.a, which `make lib` makes. tests/verifier.py, written from the second edition and the opener
 alone, makes the tags that our library makes, and both say yes and no to the same. Both programs agree with the values of the paper, the opener of the
-tags with what E gives; they open the paper's card and verify its tag, and the opener with other tables opens the card that has tables of its own. Then
+tags with what E gives; they open the paper's card and verify its tag, and the opener with other tables opens the card that has tables of its own.
+tests/unwrapper.py, which follows the paper over the opener's E and U, wraps and unwraps keys as our library does, and agrees with the paper. Then
 what must be noticed: an altered sealed byte, an altered bit of tag, message or key, another key, a wrong counter, wrong masks, an altered paper.
 
 Word lines have check sums since the fourth edition; the opener does not know them, and gets the paper without them. tests/paper.py holds them.
@@ -22,21 +23,22 @@ import unittest.mock
 
 sys.dont_write_bytecode = True
 HERE = os.path.dirname(os.path.abspath(__file__))
-OPENER, VERIFIER = os.path.join(HERE, "opener.py"), os.path.join(HERE, "verifier.py")
+OPENER, VERIFIER, UNWRAPPER = (os.path.join(HERE, name) for name in ("opener.py", "verifier.py", "unwrapper.py"))
 sys.path.insert(0, HERE)
 import make_paper_values
 import opener
 import paper
 import papers
+import unwrapper
 import verifier
 
-# SHA-256 of each program as it was written
+# SHA-256 of each program that a stranger wrote, as it was written
 WRITTEN = {
     OPENER: "cf5e5b42334352123761949f7a86983bb3adf21c2f8c9143e117b3384fd5f862",
     VERIFIER: "8ce88397172defc8fe2f7cde41836263f3be50de593d9884f5e276fc84ceba40",
 }
-CHECKED = {OPENER: "996 checked", VERIFIER: "209 compared"}  # what each program's own check says of the paper
-COUNTS = {"CBC pages": 45, "CTR pages": 171, "tags": 315, "tags that get a no": 678, "refusals": 18, "alterations": 124}
+CHECKED = {OPENER: "996 checked", VERIFIER: "209 compared", UNWRAPPER: "211 compared"}  # what each program's own check says of the paper
+COUNTS = {"CBC pages": 45, "CTR pages": 171, "tags": 315, "tags that get a no": 678, "wrapped keys": 45, "wrapped keys refused": 90, "refusals": 28, "alterations": 150}
 WORD_SUM = re.compile(r"^(\S.* 0x[0-9A-F]{16}) +: [0-9A-F]{4}$", re.M)  # a word line with its check sum
 FAILURES = []
 COUNTED = dict.fromkeys(COUNTS, 0)
@@ -216,6 +218,45 @@ def wrong_masks(rng):
 
 # ---- the paper
 
+# ---- wrapped keys
+
+def wrapped_by_us(name, l, master, source, number=0):
+    return paper.our_wrap(name, l, master, source, number)
+
+
+def key_by_key(rng):
+    """Keys of every length and of each l, by both; and refused by both with a bit altered, or under another master key."""
+    for l in (2, 3, 4):
+        for length in papers.UNWRAPPED_LENGTHS:
+            master, key = rng.randbytes(8 * l), rng.randbytes(length)
+            name = f"a key of {length} bytes, l {l}"
+            wrapped = wrapped_by_us("key_wrap", l, master, key)
+            same(f"{name}: wrapped", unwrapper.wrap(l, master, key), wrapped)
+            same(f"{name}: unwrapped", (unwrapper.unwrap(l, master, wrapped), wrapped_by_us("key_unwrap", l, master, wrapped)), (key, key))
+            COUNTED["wrapped keys"] += 1
+            flip = lambda data, at: data[:at] + bytes([data[at] ^ 1 << rng.randrange(8)]) + data[at + 1 :]
+            for given in ((master, flip(wrapped, rng.randrange(len(wrapped)))), (flip(master, rng.randrange(8 * l)), wrapped)):
+                same(f"{name}: altered", unwrapper.unwrap(l, *given), 18)
+                wrapped_by_us("key_unwrap", l, *given, number=18)
+                COUNTED["wrapped keys refused"] += 1
+    for length in (0, 8, 15, 17, 136):
+        for name, work, source in (("key_wrap", unwrapper.wrap, length), ("key_unwrap", unwrapper.unwrap, length + 8)):
+            source = rng.randbytes(source)
+            same(f"{name}: {len(source)} bytes", work(2, bytes(16), source), 17)
+            wrapped_by_us(name, 2, bytes(16), source, number=17)
+            COUNTED["refusals"] += 1
+
+
+def wrong_wrapping(rng):
+    """Wrong check value and wrong numbers in the unwrapper are noticed."""
+    master, key = rng.randbytes(16), rng.randbytes(24)
+    wrapped = wrapped_by_us("key_wrap", 2, master, key)
+    for name, other in (("the check value", dict(CHECK=bytes(8))), ("t from 0", dict(number=lambda t: (t - 1).to_bytes(8, "big"))), ("t least first", dict(number=lambda t: t.to_bytes(8, "little")))):
+        with unittest.mock.patch.multiple(unwrapper, **other):
+            differ(f"wrapped, {name}", unwrapper.wrap(2, master, key), wrapped)
+            differ(f"unwrapped, {name}", unwrapper.unwrap(2, master, wrapped), key)
+
+
 def command(program, *words):
     return subprocess.run([sys.executable, "-B", program, *words], capture_output=True, text=True, timeout=60)
 
@@ -253,6 +294,15 @@ def altered_tags(text, blocks, rng):
                 yield line, text.replace(blocks[block][2], other)
     for said, other in (("the sealed page\n```", "the opened page\n```"), ("by record: 0 0,", "by record: 0 1,"), ("16 or 32 bytes, K2", "16 or 40 bytes, K2")):
         yield said, text.replace(said, other)
+
+
+def altered_wraps(text, blocks, rng):
+    """What of the wrapped keys was altered, and the paper with it: a digit of a line of each name, and of a head line of each kind."""
+    for block in ("trace-wrap", "vectors-kw", "vectors-kw-refused", "card-wrapped"):
+        lines = [*paper.altered(blocks[block][2])]
+        for name in sorted({line.split()[0] for line, _ in lines}):
+            line, other = rng.choice([one for one in lines if one[0].split()[0] == name])
+            yield f"{block}, {line}", text.replace(blocks[block][2], other)
 
 
 @contextlib.contextmanager
@@ -304,6 +354,12 @@ def with_the_paper(place, rng):
         with contextlib.redirect_stdout(io.StringIO()):
             status = verifier.check(copy)
         differ(f"an altered paper: {line}", status, 0)
+    checked(UNWRAPPER, paper.PAPER)
+    for line, other in altered_wraps(text, blocks, rng):
+        written(copy, other)
+        with contextlib.redirect_stdout(io.StringIO()):
+            status = unwrapper.check(copy)
+        differ(f"an altered paper: {line}", status, 0)
     # runs that came into the paper after the opener was written; and of the tags, which it does not know, what E gives
     checker = opener.Checker(text)
     runs = checker.records("vectors-ctr-carry")
@@ -337,6 +393,13 @@ def with_the_paper(place, rng):
     # its tag
     page_said, said = said, dict(line.split(maxsplit=1) for line in blocks["card-tag"][2].splitlines())
     own_tables(blocks["card-tables"][2], page_said, bytes.fromhex(said["tag-key"]))
+    master = {}
+    for line in blocks["card-wrapped"][2].splitlines():
+        name, value = line.split(maxsplit=1)
+        master[name] = f"{master.get(name, '')}{value}"
+    for given, wanted in ((master["wrapped"], (0, "".join(page_said["key"].split()) + "\n")), (master["wrapped"][:-1] + "0", (1, "18\n")), ("00" * 16, (1, "17\n"))):
+        done = command(UNWRAPPER, "unwrap", "-l", master["master-l"], "--master", master["master-key"], given)
+        same(f"the card's wrapped key, {given}", (done.returncode, done.stdout), wanted)
     words, tag = ["-l", said["tag-l"], "--key", said["tag-key"]], bytes.fromhex(said["tag"])
     done = command(VERIFIER, "tag", *words, "--length", said["tag-length"], sealed)
     same("the card's tag, made", (done.returncode, done.stdout), (0, tag.hex().upper() + "\n"))
@@ -366,13 +429,15 @@ def main(words):
         other_tags(rng)
         refused_tags(rng)
         wrong_masks(rng)
+        key_by_key(rng)
+        wrong_wrapping(rng)
         with_the_paper(place, rng)
         as_written()
     same("tried", COUNTED, COUNTS)
     for failure in FAILURES:
         print(f"opener: FAILED: {failure}")
     counts = ", ".join(f"{count} {what}" for what, count in COUNTED.items())
-    print(f"opener: seed {seed}: {counts} tried, {' and '.join(CHECKED.values())} with the paper; {len(FAILURES)} failures")
+    print(f"opener: seed {seed}: {counts} tried, {', '.join(CHECKED.values())} with the paper; {len(FAILURES)} failures")
     sys.exit(1 if FAILURES else 0)
 
 

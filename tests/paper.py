@@ -32,10 +32,10 @@ BYTE_LINE = re.compile(r"^(\S+) +((?:[0-9A-F]{2}){1,4}(?: (?:[0-9A-F]{2}){1,4}){
 WORD_LINE = re.compile(r"^(\S.*\S) +: ([0-9A-F]{4})$")
 WORD_CELL = re.compile(r"^(\S+) +(0x[0-9A-F]{16}(?: 0x[0-9A-F]{16})?)$")
 READ = {
-    "blocks": 29, "byte strings": 195, "half-blocks": 396, "block vectors": 18, "CBC runs": 3, "CTR runs": 7, "traced blocks": 3, "tags": 8,
-    "flipped bits of tags and messages": 2080, "tapes": 514,
+    "blocks": 34, "byte strings": 280, "half-blocks": 396, "block vectors": 18, "CBC runs": 3, "CTR runs": 7, "traced blocks": 3, "tags": 8,
+    "flipped bits of tags and messages": 2080, "wrapped keys": 8, "flipped bits of wrapped keys": 3712, "refused strings": 9, "tapes": 514,
 }
-SUMMED = [440, 354, 16]  # lines with check sums: of bytes, of words, of Table 1
+SUMMED = [586, 354, 16]  # lines with check sums: of bytes, of words, of Table 1
 
 
 class Fault(Exception):
@@ -59,7 +59,7 @@ def ours(place):
     library.labyrinth_mix.restype = ctypes.c_uint64
     for name in (
         "encipher", "decipher", "cbc_seal", "cbc_open", "ctr", "cmac", "cmac_verify", "store_fresh", "store_load", "expand", "key_ctr", "key_cmac",
-        "key_cmac_verify",
+        "key_cmac_verify", "key_wrap", "key_unwrap",
     ):  # fmt: skip
         getattr(library, f"labyrinth_{name}").restype = ctypes.c_uint8
     return library
@@ -101,6 +101,25 @@ def our_answer(l, key, message, tag, number=0):
     yes = ctypes.c_uint8(2)
     called("cmac_verify", l, key, message, tag, ctypes.byref(yes), number=number)
     return yes.value
+
+
+@functools.lru_cache(maxsize=None)
+def our_key(l, master):
+    """A fresh store, and the master key expanded for set 0."""
+    store, working = room(papers.STORE), room(papers.WORKING)
+    called("store_fresh", store)
+    called("expand", store, 1, l, 0, master, working)
+    return store, working
+
+
+@functools.lru_cache(maxsize=None)
+def our_wrap(name, l, master, source, number=0):
+    """What the library wraps or unwraps a string to; if it is refused, the destination must be as it was."""
+    out = room(max(len(source) + (8 if name == "key_wrap" else -8), 0))
+    out.raw = b"\x5a" * len(out)
+    called(name, *our_key(l, master), source, out, number=number)
+    same("what a refusal left", number == 0 or out.raw == b"\x5a" * len(out), True)
+    return out.raw
 
 
 @functools.lru_cache(maxsize=None)
@@ -579,6 +598,108 @@ def cmac(text):
     same("the highest bits where K2 is used", both, {(0, 0), (0, 1), (1, 0), (1, 1)})
 
 
+@functools.lru_cache(maxsize=None)
+def wrapped_key(l, master, key, wrapped):
+    """A wrapped key by both programs, both ways; with any bit altered ours refuses it. How many bits."""
+    same("the lengths", (len(master), papers.wrapping(1, len(key), len(wrapped))), (8 * l, 0))
+    same("theirs, wrapped", wrapped.hex(), their("kw_wrap", 1, master, key).hex())
+    same("theirs, unwrapped", key, their("kw_unwrap", 1, master, wrapped))
+    same("ours, wrapped", wrapped.hex(), our_wrap("key_wrap", l, master, key).hex())
+    same("ours, unwrapped", key.hex(), our_wrap("key_unwrap", l, master, wrapped).hex())
+    others = list(flipped(wrapped))
+    for other in others:
+        our_wrap("key_unwrap", l, master, other, number=18)
+    return len(others)
+
+
+def kw_record(lines, *names):
+    """What a record of a wrapped key has, the lengths being those of its head line."""
+    first, *rest = lines
+    kind, l, length = head(first, "l", "key")
+    master, key, *found = parts(rest, "master", "key", *names)
+    same("the kind and the lengths", (kind, len(master), len(key)), ("kw", 8 * l, length))
+    return l, master, key, *found
+
+
+def kw(text):
+    """A key of each length that keys have; each l."""
+    made = [kw_record(lines, "wrapped") for lines in records(text)]
+    for one in made:
+        COUNTED["flipped bits of wrapped keys"] += wrapped_key(*one)
+    same("the lengths of keys", [len(key) for _, _, key, _ in made], sorted({8 * n * l for n, l in SIZES}))
+    same("each l", {l for l, *_ in made}, {2, 3, 4})
+    same("the one that is traced", TRACED["wrap"], {"wrapped": made[1]})
+    COUNTED["wrapped keys"] += len(made)
+    TRACED["kw"] = {at: one for at, one in enumerate(made)}
+
+
+def wrap_trace(text):
+    """The first six steps one by one, and the last; unwrapping has the same."""
+    front, *steps = records(text)
+    l, master, key = kw_record(front)
+    m = len(key) // 8
+    numbers = [*range(make_paper_values.KW_STEPS + 1), 6 * m]
+    same("the steps", [first for first, *_ in steps], [f"step {t}" for t in numbers])
+    rest = ["A", *(f"R_{i}" for i in range(1, m + 1))]
+    before = None
+    for t, (_, *lines) in zip(numbers, steps):
+        if t in (0, 6 * m):
+            a, *r = parts(lines, *rest)
+        else:
+            given, block, a, *r = parts(lines, "given", "B", *rest)
+            same(f"what E is given at {t}", given, before[0] + before[1])
+            same(f"E and U at {t}", (block, given), (their("encrypt_block", 1, master, given), their("decrypt_block", 1, master, block)))
+            same(f"A after {t}", a, block[:7] + bytes([block[7] ^ t]))
+            same(f"the R_i after {t}", r, [*before[2:], block[8:]])
+        if t == 0:
+            same("what wrapping starts from", (a, b"".join(r)), (bytes.fromhex("A6") * 8, key))
+        before = [a, *r]
+    wrapped = b"".join(before)
+    wrapped_key(l, master, key, wrapped)
+    TRACED["wrap"] = {"wrapped": (l, master, key, wrapped)}
+
+
+def kw_refused(text):
+    """Both programs refuse each, with the number that the head line tells; and the strings are what the text before them says."""
+    told = []
+    for first, *lines in records(text):
+        kind, l, length, number = head(first, "l", "bytes", "number")
+        master, string = parts(lines, "master", "string")
+        same("the kind and the lengths", (kind, len(master), len(string)), ("refused", 8 * l, length))
+        right = papers.unwrapping(1, length, max(length - 8, 0), right=lambda: their("kw_unwrap", 1, master, string) is not None)
+        same("the number", number, right)
+        our_wrap("key_unwrap", l, master, string, number=number)
+        told.append((master, string))
+    (l, one, key, wrapped), (_, two, _, other), (_, three, *_) = (TRACED["kw"][at] for at in range(3))
+    flip = lambda data, at, bit: data[:at] + bytes([data[at] ^ bit]) + data[at + 1 :]
+    padded = told[4][1]
+    same("the strings", told, [
+        (one, flip(wrapped, 0, 0x80)), (one, flip(wrapped, 23, 0x01)), (two, flip(other, 13, 0x10)), (two, other[8:] + other[:8]), (one, padded), (three, wrapped),
+        (one, wrapped[:-8]), (one, wrapped[:-1]), (one, wrapped + bytes(1)),
+    ])
+    kept, modes.ICV1 = modes.ICV1, bytes.fromhex("A65959A600000010")
+    try:
+        same("with the check value of KWP", modes.kw_unwrap(theirs(1, one), padded), key)
+    finally:
+        modes.ICV1 = kept
+    COUNTED["refused strings"] += len(told)
+
+
+def card_wrapped(text):
+    """The card's key, wrapped, and the master key."""
+    said = {}
+    for line in text.splitlines():
+        name, value = line.split(maxsplit=1)
+        said[name] = said.get(name, "") + value
+    same("what the cards say", list(said), ["wrapped", "master-l", "master-key"])
+    wrapped_key(int(said["master-l"]), bytes.fromhex(said["master-key"]), make_paper_values.card_run()[2], bytes.fromhex(said["wrapped"]))
+    COUNTED["wrapped keys"] += 1
+
+
+def wrong_wraps(text):
+    same("the wrong readings of KW", text.splitlines(), made("wrong_wraps"))
+
+
 def card(text):
     """The card, and that its page opens to the sentence in the text."""
     front, back = records(text)
@@ -739,13 +860,18 @@ CHECKS = {
     "vectors-ctr": ctr,
     "vectors-ctr-carry": ctr_carry,
     "vectors-cmac": cmac,
+    "trace-wrap": wrap_trace,
+    "vectors-kw": kw,
+    "vectors-kw-refused": kw_refused,
     "card": card,
     "card-tag": card_tag,
+    "card-wrapped": card_wrapped,
     "card-tables": card_tables,
     "tape": tape,
     "wrong-readings": wrong_readings,
     "wrong-readings-ctr": wrong_by("wrong_counters"),
     "wrong-readings-cmac": wrong_by("wrong_tags"),
+    "wrong-readings-kw": wrong_wraps,
 }
 
 
@@ -787,6 +913,18 @@ def sentences():
     yield f"\n{tags - 1}. U is used in place of E.\n\n"
     yield f"\n\n{tags}. Doubling takes byte 0 for the least"
     yield f"\n{tags + len(made('wrong_tags')) - 1}. The last bytes of the whole are taken for the tag.\n\n"
+    wraps = tags + len(made("wrong_tags"))
+    yield f"\n\n{wraps}. t is counted from 0.\n"
+    yield f"\n{wraps + len(made('wrong_wraps')) - 1}. U is used in place of E, and E in place of U.\n\n"
+    yield f"A is 8 bytes `{modes.ICV1[0]:02X}`, the check value."
+    yield f"Since t never passes {6 * papers.UNWRAPPED_LENGTHS[-1] // 8},"
+    sealed, plain = ({8 * n * l + more for n, l in SIZES} for more in (8, 0))
+    few = lambda lengths: ", ".join(map(str, sorted(lengths)[:-1])) + f" and {max(lengths)}"
+    yield f"{few(sealed - plain)} bytes are a wrapped key only, {few(plain - sealed)} bytes a key only; {few(sealed & plain)} bytes can be either."
+    l, _, key = make_paper_values.KW_TRACED
+    yield f"one key of {len(key)} bytes, so m is {len(key) // 8}, traced through the first six of its {6 * len(key) // 8} steps"
+    yield "`kw l {} key {}`".format(make_paper_values.KW_RUNS[0][0], len(make_paper_values.KW_RUNS[0][2]))
+    yield "{} to {} bytes and unwrap strings of {} to {}, in steps of 8.".format(*(lengths[at] for lengths in (papers.UNWRAPPED_LENGTHS, papers.WRAPPED_LENGTHS) for at in (0, -1)))
     constant = modes._dbl(b"\x80" + bytes(15))[15]
     yield f"XOR the last byte, byte 15, with `{constant:02X}`."
     for front, back in (("and", " This"), (";", "\n")):

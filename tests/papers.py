@@ -55,6 +55,23 @@ def table(row, words):
     return mixing(row) or (5 if words != 256 else 0)
 
 
+WRAPPED_LENGTHS, UNWRAPPED_LENGTHS = range(24, 137, 8), range(16, 129, 8)
+
+
+def wrapping(n, source, destination, loaded=True):
+    """Job 8, of a key that is wrapped."""
+    return key_lengths(n, source, destination, loaded, UNWRAPPED_LENGTHS, source + 8)
+
+
+def unwrapping(n, source, destination, loaded=True, right=lambda: True):
+    """Of one that is unwrapped; whether its check value is right is asked last."""
+    return key_lengths(n, source, destination, loaded, WRAPPED_LENGTHS, source - 8) or (0 if right() else 18)
+
+
+def key_lengths(n, source, destination, loaded, sources, fits):
+    return 1 if n not in NS else 15 if not loaded else 12 if n != 1 else 17 if source not in sources else 5 if destination != fits else 0
+
+
 class Store:
     """Job 7, naively: four sets, each a substitution and a row, and what publishers 0 and 1 have taken, where 4 and above is none."""
 
@@ -99,7 +116,7 @@ class Store:
 
 
 def through_c(op, n, l, key, start, source, destination):
-    """A tag, made or to be verified, is the destination, and n is 1 there."""
+    """A tag, made or to be verified, is the destination, and n is 1 there, as it is for keys that are wrapped and unwrapped."""
     own = {
         "encipher": block(n, source, destination),
         "decipher": block(n, source, destination),
@@ -108,6 +125,8 @@ def through_c(op, n, l, key, start, source, destination):
         "ctr": ctr(n, start, source, destination),
         "cmac": tag(n, destination),
         "cmac_verify": tag(n, destination),
+        "wrap": wrapping(n, source, destination),
+        "unwrap": unwrapping(n, source, destination),
     }
     return expansion(n, l, key) or own[op]
 

@@ -1,10 +1,13 @@
 #!/usr/bin/env python3
-"""The store, and operations under a key that names a set (document 02, Job 7), through the C interface. Asked are tests/labyrinth_lines.c's lines over
-the library; a request has all that the call is lent, so that a store or a key made by hand is tried as any other. Needs target/dist (make lib) and gcc.
+"""The store, operations under a key that names a set (document 02, Job 7), and wrapped keys (Job 8), through the C interface. Asked are
+tests/labyrinth_lines.c's lines over the library; a request has all that the call is lent, so that a store or a key made by hand is tried as any other.
+Needs target/dist (make lib) and gcc.
 
     tests/stores.py [--seed NUMBER]
 
 - vectors of three other sets: expansion, blocks by table and by matrix, CBC, CTR, tags;
+- keys wrapped and unwrapped with these and the published set, under expanded keys and keys by hand; every length of a source to 144 bytes with
+  destinations that fit and that don't; every bit of a wrapped key flipped, and other strings that are no wrapped keys;
 - every set of faults at once that a call can have, for the order of the refusals;
 - stores made by hand: two equal bytes, a row that XORs to zero, marks out of range and on unloaded sets, something else at set 0;
 - 10,000 random calls of two publishers from a fresh store, and shorter histories from stores made by hand; and what each publisher got, once more
@@ -41,12 +44,14 @@ CALLS, SHORT = 10000, 50
 
 ENCIPHERS, DECIPHERS = ("key_encipher", "key_encipher_by_matrix"), ("key_decipher", "key_decipher_by_matrix")
 BLOCKS, CBC, CTR, TAGS = ENCIPHERS + DECIPHERS, ("key_cbc_seal", "key_cbc_open"), ("key_ctr",), ("key_cmac", "key_cmac_verify")
-USES = BLOCKS + CBC + CTR + TAGS
+WRAPS = ("key_wrap", "key_unwrap")
+USES = BLOCKS + CBC + CTR + TAGS + WRAPS
 OPERATIONS = ("store_fresh", "store_load", "store_take", "expand") + USES
 
 # how many requests of each kind there are; of the last at least
 COUNTS = {
-    "example": 2, "expansion": 54, "blocks": 432, "CBC": 306, "CTR": 216, "tags": 108, "verified tags": 324, "faults": 1064, "stores by hand": 2310,
+    "example": 6, "expansion": 54, "blocks": 432, "CBC": 306, "CTR": 216, "tags": 108, "verified tags": 324, "wrapped keys": 144,
+    "lengths of keys": 2490, "flipped bits": 3206, "no wrapped keys": 156, "faults": 1352, "stores by hand": 2730,
     "history": CALLS, "histories by hand": 42 * SHORT, "isolation": 8000,
 }  # fmt: skip
 OUTSIDE = (4, 5, 255, 256, 2**32, 2**32 + 1, LARGE)  # sets outside a store; some are inside once bits are lost
@@ -63,6 +68,7 @@ class Kiosk(papers.Store):
     """The papers' rules in one place, so that a wrong one can stand in for each."""
 
     expansion, block, cbc, ctr, tag = map(staticmethod, (papers.expansion, papers.block, papers.cbc, papers.ctr, papers.tag))
+    wrapping, unwrapping = map(staticmethod, (papers.wrapping, papers.unwrapping))
 
 
 @functools.lru_cache(None)
@@ -71,9 +77,15 @@ def expanded(tables, n, key):
         return labyrinth.Labyrinth(n, key).expanded_key_bytes()
 
 
+SPOILED = set()  # wrapped keys with a bit flipped: no wrapped keys, with no word from the archivists' program, which takes long for them
+
+
 @functools.lru_cache(None)
 def worked(tables, op, n, words, *given):
-    """The bytes by the archivists' program: of an operation under the words of a working key, its destination left out; a tag is whole."""
+    """The bytes by the archivists' program: of an operation under the words of a working key, its destination left out; a tag is whole. None for what is
+    no wrapped key."""
+    if op == "key_unwrap" and given[0] in SPOILED:
+        return None
     with archivists_sets.with_set(*tables):
         cipher = archivists_sets.under(n, words)
         if op in ENCIPHERS:
@@ -82,6 +94,8 @@ def worked(tables, op, n, words, *given):
             return cipher.decrypt_block(*given)
         if op in TAGS:
             return modes.cmac(cipher, *given)
+        if op in WRAPS:
+            return (modes.kw_wrap if op == "key_wrap" else modes.kw_unwrap)(cipher, *given)
         return {"key_cbc_seal": modes.cbc_encrypt, "key_cbc_open": modes.cbc_decrypt, "key_ctr": modes.ctr_crypt}[op](cipher, *given)
 
 
@@ -108,6 +122,10 @@ def answered(request, kind):
     bytes_of = lambda: worked(kiosk.tables(i), op, n, words[: 64 * n], *given)
     if op in TAGS:
         return kiosk.tag(n, len(destination), kiosk.loaded(i)), lambda: bytes_of()[: len(destination)]
+    if op == "key_wrap":
+        return kiosk.wrapping(n, len(given[0]), len(destination), kiosk.loaded(i)), bytes_of
+    if op == "key_unwrap":
+        return kiosk.unwrapping(n, len(given[0]), len(destination), kiosk.loaded(i), lambda: bytes_of() is not None), bytes_of
     lengths = [len(field) for field in given if isinstance(field, bytes)]
     rule = kiosk.block if op in BLOCKS else kiosk.cbc if op in CBC else kiosk.ctr
     return rule(n, *lengths, len(destination), kiosk.loaded(i)), bytes_of
@@ -143,9 +161,11 @@ def other(data, at=0):
     return data[:at] + bytes([data[at] ^ 1]) + data[at + 1 :]
 
 
-# a value from a program written from the papers alone: byte v to 255 - v, the row 02 and seven 00, l = 2, key and block zeros, n = 1
+# values from a program written from the papers alone: byte v to 255 - v, the row 02 and seven 00, l = 2, key and block zeros, n = 1; and 16 bytes 00
+# wrapped, with the published set and with this one
 EXAMPLE = bytes(range(255, -1, -1)), bytes([2]).ljust(8, b"\0")
 EXAMPLE_SEALED = "1083c6bf7338b0d1a76b506917d2c2ab"
+EXAMPLE_WRAPPED = {0: "bdaf4e7fb45fd7be958f384fb9665196deb03e406cdfafbf", 1: "bca7bc5320516b227a2f7b481c5b321707f24d0a7b7a0175"}
 
 
 def example():
@@ -154,6 +174,13 @@ def example():
         raise SystemExit("stores: FAILED: the archivists' program gives another block for the example")
     yield "example", ("expand", store, 1, 2, 1, bytes(16), bytes(WORKING))
     yield "example", ("key_encipher", store, working, bytes(16), bytes(16))
+    for i, text in EXAMPLE_WRAPPED.items():
+        tables, wrapped = (PUBLISHED, EXAMPLE)[i], bytes.fromhex(text)
+        working = papers.working_bytes(1, i, expanded(tables, 1, bytes(16)))
+        if worked(tables, "key_wrap", 1, working[16:80], bytes(16)) != wrapped:
+            raise SystemExit(f"stores: FAILED: the archivists' program gives another wrapped key for the example of set {i}")
+        yield "example", ("key_wrap", store, working, bytes(16), bytes(24))
+        yield "example", ("key_unwrap", store, working, wrapped, b"\xff" * 16)
 
 
 def vectors(rng):
@@ -186,6 +213,78 @@ def vectors(rng):
                 yield "tags", ("key_cmac", ALL, working, message, data(len(tag)))
                 for given in (tag, other(tag, rng.randrange(len(tag))), tag[:-1] + bytes([tag[-1] ^ 0x80])):
                     yield "verified tags", ("key_cmac_verify", ALL, working, message, given)
+
+
+# ---- wrapped keys
+
+FAR = (*(256 + length for length in (16, 24, 128, 136)), 65536 + 16, 65536 + 24)  # lengths that are legal once bits are lost
+
+
+def wraps(rng):
+    """Under set 0 and the three others. A destination holds anything before."""
+    data, pick = rng.randbytes, rng.choice
+    sets = [PUBLISHED, *OTHERS]
+
+    def a_key(i, l=None):
+        """A working key at n = 1, expanded, or made by hand; and a function that wraps under it."""
+        words = data(64) if l is None else expanded(sets[i], 1, data(8 * l))
+        return papers.working_bytes(1, i, words), lambda key: worked(sets[i], "key_wrap", 1, words, key)
+
+    for i in range(4):
+        for length, l in [*((length, 2 + (i + length // 8) % 3) for length in papers.UNWRAPPED_LENGTHS), (16, None), (24, None), (128, None)]:
+            working, wrapped = a_key(i, l)
+            key = data(length)
+            yield "wrapped keys", ("key_wrap", ALL, working, key, data(length + 8))
+            yield "wrapped keys", ("key_unwrap", ALL, working, wrapped(key), data(length))
+    # every length in both directions; to be unwrapped are a wrapped key, where there is one so long, and any bytes
+    for length in (*range(145), *FAR):
+        working, wrapped = a_key(length // 8 % 4, pick((2, 3, 4, None)))
+        sources = {"key_wrap": [data(length)], "key_unwrap": [data(length)]}
+        if length in papers.WRAPPED_LENGTHS:
+            sources["key_unwrap"].append(wrapped(data(length - 8)))
+        for op, fits in (("key_wrap", length + 8), ("key_unwrap", length - 8)):
+            rooms = {fits - 8, fits - 1, fits + 1, fits + 8, fits + 16, fits + 256, 0, length}
+            for source in sources[op]:
+                for room in (*sorted(rooms - {fits}), fits):
+                    if room >= 0:
+                        yield "lengths of keys", (op, ALL, working, source, data(room))
+    # every bit of a wrapped key, the key's own unwrapping behind them
+    for length in (16, 32, 128):
+        for i in (0, 3):
+            working, wrapped = a_key(i, pick((2, 3, 4)))
+            whole = wrapped(data(length))
+            for bit in range(8 * len(whole)):
+                source = whole[: bit // 8] + bytes([whole[bit // 8] ^ 1 << bit % 8]) + whole[bit // 8 + 1 :]
+                if (length, i) != (16, 0):
+                    SPOILED.add(source)
+                yield "flipped bits", ("key_unwrap", ALL, working, source, data(length))
+            yield "flipped bits", ("key_unwrap", ALL, working, whole, data(length))
+    # with another check value, wrapped under another key, turned by a semiblock, a bit changed, zeros, the key itself; and with each set, of which one
+    # is right
+    for i in range(4):
+        for length in (16, 24, 40):
+            working, wrapped = a_key(i, pick((2, 3, 4, None)))
+            words, key = papers.working_of(working)[2], data(length)
+            whole = wrapped(key)
+            with archivists_sets.with_set(*sets[i]):
+                sources = [with_check(archivists_sets.under(1, words[:64]), check, key) for check in CHECKS]
+            for source in (*sources, a_key(i)[1](key), whole[8:] + whole[:8], other(whole, length), bytes(len(whole)), key + key[:8]):
+                yield "no wrapped keys", ("key_unwrap", ALL, working, source, data(length))
+            for j in range(4):
+                yield "no wrapped keys", ("key_unwrap", ALL, papers.working_bytes(1, j, words), whole, data(length))
+
+
+# check values: the standard's for padded keys, of 16 bytes; ours with a bit flipped in its last and its first byte; zeros
+CHECKS = [bytes.fromhex(check) for check in ("a65959a600000010", "a6a6a6a6a6a6a6a7", "26a6a6a6a6a6a6a6", "0000000000000000")]
+
+
+def with_check(cipher, check, key):
+    """The archivists' wrapping with another check value."""
+    kept, modes.ICV1 = modes.ICV1, check
+    try:
+        return modes.kw_wrap(cipher, key)
+    finally:
+        modes.ICV1 = kept
 
 
 # ---- every set of faults at once
@@ -250,7 +349,7 @@ def faults(rng):
             sizes = pick((0, 3, 5, 8, 257, 2**32 + n, LARGE)) if "n" in chosen else n, pick((0, 1, 5, 258, 2**32 + l, LARGE)) if "l" in chosen else l
             working = wrong_length(WORKING) if "working" in chosen else WORKING
             yield number, ("expand", stored(chosen), *sizes, named(chosen), data(key), data(working))
-    for op in USES:
+    for op in (*BLOCKS, *CBC, *CTR, *TAGS):
         own = {"start": 6, "source": 4, "destination": 5} if op in CBC else {"start": 6, "destination": 5} if op in CTR else {"source": 4, "destination": 5}
         own = {"other n": 12, "tag": 11} if op in TAGS else own
         for chosen, number in subsets([*records, ("n", 1), ("set", 15), *own.items()]):
@@ -272,6 +371,27 @@ def faults(rng):
                 destination = pick([x for x in (0, 1, destination + 1, destination + 16, 2 * destination + 3, destination + 256) if x != destination])
             middle = [data(start)] * (op in CBC + CTR) + [pick((0, 1, LARGE))] * (op in CTR)
             yield number, (op, stored(chosen), working, *middle, data(source), data(destination))
+    for op in WRAPS:
+        own = [("other n", 12), ("source", 17), ("destination", 5)] + [("check value", 18)] * (op == "key_unwrap")
+        for chosen, number in subsets([*records, ("n", 1), ("set", 15), *own]):
+            if {"n", "other n"} <= chosen:
+                continue
+            n, i, words, key = pick((2, 4)) if "other n" in chosen else 1, named(chosen), data(256), data(pick((16, 24, 32, 32, 128)))
+            source = key
+            if op == "key_unwrap":
+                source = worked(papers.Store([PUBLISHED, *HALF], ()).tables(i if i < 3 else 0), "key_wrap", 1, words[:64], key)
+            if "check value" in chosen:
+                source = other(source, rng.randrange(len(source)))
+            destination = len(source) + 8 if op == "key_wrap" else len(source) - 8
+            if "source" in chosen:
+                low = 16 if op == "key_wrap" else 24
+                source = source[: pick((0, 1, 7, 8, low - 8, low - 1))] if rng.randrange(2) else source + data(pick((1, 4, 7, 128, 256, 65536)))
+                destination = max(len(source) + (8 if op == "key_wrap" else -8), 0)
+            if "destination" in chosen:
+                destination = pick([x for x in (0, 1, destination + 1, destination + 8, destination + 16, destination + 256) if x != destination])
+            held = pick((0, 3, 5, 8, 257, 2**32 + n, LARGE)) if "n" in chosen else n
+            working = data(wrong_length(WORKING)) if "working" in chosen else papers.working_bytes(held, i, words)
+            yield number, (op, stored(chosen), working, source, data(destination))
 
 
 # ---- stores made by hand
@@ -316,6 +436,8 @@ def trials(rng):
             key = papers.working_bytes(1, i, words)
             yield "key_cmac", store, key, data(rng.randrange(40)), data(16)
             yield "key_cmac_verify", store, key, b"", data(8)
+            yield "key_wrap", store, key, words[:16], data(24)
+            yield "key_unwrap", store, key, data(24), data(16)
 
 
 # ---- histories
@@ -366,7 +488,7 @@ class History:
             i = self.often((0, 1, 2, 3), OUTSIDE, 3)
             working = papers.working_bytes(self.often((1, 2, 4), (0, 3, 2**32 + 1, LARGE), 6), i, data(256))
         op = rng.choice(USES)
-        if op in TAGS and rng.randrange(4):
+        if op in TAGS + WRAPS and rng.randrange(4):
             working = papers.number_bytes(1) + working[8:]
         n = papers.working_of(working)[0]
         block = 16 * n if n in papers.NS else 16
@@ -377,6 +499,15 @@ class History:
             number, bytes_of = answered((op, papers.store_bytes(self.store), working, message, data(length)), Kiosk)
             tag = data(length) if number else bytes_of()
             return op, working, message, tag if rng.randrange(3) or not tag else other(tag, rng.randrange(len(tag)))
+        if op in WRAPS:
+            length = self.often((16, 16, 24), (32, 0, 8, 15, 17, 136, 144), 6)
+            source, fits = data(length), length + 8
+            if op == "key_unwrap":
+                # mostly what wraps to the key now, whichever tables were there when it was expanded
+                request = ("key_wrap", papers.store_bytes(self.store), working, source, data(fits))
+                number, bytes_of = answered(request, Kiosk)
+                source, fits = data(fits) if number or rng.randrange(4) == 0 else bytes_of(), length
+            return op, working, source, data(self.often((fits,), (fits + 1, max(fits - 8, 0), len(source)), 10))
         start = data(self.often((block,), (0, block - 1, block + 1), 20))
         count = self.often((block,), (0, block - 1, block + 1), 20) if op in BLOCKS else block * rng.randrange(4) + rng.randrange(block) * (op in CTR)
         if op in CBC and rng.randrange(12) == 0:
@@ -481,6 +612,18 @@ def wrong_rules():
     def thirteen_first(self, substitution, row):
         return papers.mixing(row) or Kiosk.content(self, substitution, row)
 
+    def seventeen_first(n, source, destination, loaded):
+        number = papers.wrapping(n, source, destination, loaded)
+        return 17 if number == 12 and source not in papers.UNWRAPPED_LENGTHS else number
+
+    def five_first(n, source, destination, loaded):
+        number = papers.wrapping(n, source, destination, loaded)
+        return 5 if number == 17 and destination != source + 8 else number
+
+    def eighteen_first(n, source, destination, loaded, right):
+        number = papers.unwrapping(n, source, destination, loaded, right)
+        return 18 if number == 5 and not right() else number
+
     yield "13 before 14", rule("A", content=thirteen_first)
     yield "any 256 bytes are a substitution", rule("B", content=lambda self, s, g: 14 if len(s) != 256 else papers.mixing(g))
     yield "the row is not looked at", rule("C", content=lambda self, s, g: 14 if sorted(s) != list(range(256)) else 0)
@@ -504,6 +647,12 @@ def wrong_rules():
     yield "5 before 15", rule("U", ctr=order(papers.ctr, 5))
     yield "12 before 15", rule("V", tag=order(papers.tag, 12))
     yield "11 before 15", rule("W", tag=order(papers.tag, 11))
+    yield "17 before 15", rule("Y", wrapping=order(papers.wrapping, 17))
+    yield "17 before 12", rule("Z", wrapping=staticmethod(seventeen_first))
+    yield "5 before 17", rule("a", wrapping=staticmethod(five_first))
+    yield "18 before 5", rule("b", unwrapping=staticmethod(eighteen_first))
+    yield "136 bytes are wrapped", rule("c", wrapping=staticmethod(lambda n, s, d, ok: papers.wrapping(n, s - 8, d - 8, ok) if s == 136 else papers.wrapping(n, s, d, ok)))
+    yield "8 bytes are wrapped", rule("d", wrapping=staticmethod(lambda n, s, d, ok: papers.wrapping(n, s + 8, d + 8, ok) if s == 8 else papers.wrapping(n, s, d, ok)))
     yield "15 before 1", rule("X", block=staticmethod(lambda n, s, d, ok: papers.block(n, s, d) if ok else 15))
 
 
@@ -537,7 +686,7 @@ def gaps(requests, numbers):
     """Which operations never gave which of their numbers, among these requests."""
     need = {"store_load": {0, 4, 13, 14, 15, 16}, "store_take": {0, 15}, "expand": {0, 1, 2, 3, 4, 15}}
     need |= {op: {0, 1, 4, 5, 15} for op in BLOCKS} | {op: {0, 1, 4, 5, 6, 15} for op in CBC} | {"key_ctr": {0, 1, 5, 6, 15}}
-    need |= {op: {0, 1, 11, 12, 15} for op in TAGS}
+    need |= {op: {0, 1, 11, 12, 15} for op in TAGS} | {"key_wrap": {0, 1, 5, 12, 15, 17}, "key_unwrap": {0, 1, 5, 12, 15, 17, 18}}
     have = {(request[0], number) for request, number in zip(requests, numbers)}
     return sorted((op, number) for op in need for number in need[op] if (op, number) not in have)
 
@@ -545,7 +694,7 @@ def gaps(requests, numbers):
 def cases(seed):
     """Every request with its kind, in order; the number that the order of faults gives, by place; and the long history."""
     rng = random.Random(seed)
-    made, ordered = [*example(), *vectors(rng)], {}
+    made, ordered = [*example(), *vectors(rng), *wraps(rng)], {}
     for number, request in faults(rng):
         ordered[len(made)] = number
         made.append(("faults", request))

@@ -1,6 +1,7 @@
 /* Stores and working keys: which number each function gives, over a grid of records, numbers and lengths, so with every pair of refusals at
  * once; that a refusal leaves all that was lent as it was; stores made by hand; what loading, taking and expanding write, byte for byte;
- * blocks, runs and tags by any set against the block's own function, and by set 0 against the functions that take a key; lent memory; stack. */
+ * blocks, runs, tags and wrapped keys by any set against the block's own function, and by set 0 against the functions that take a key; lent
+ * memory; stack. */
 #include <signal.h>
 #include <sys/mman.h>
 #include <sys/resource.h>
@@ -10,9 +11,9 @@
 #include "interface.h"
 
 enum { STORE_LEN = 1072, WORKING_LEN = 272, SET = 264, MARKS = 1056 };
-enum what { FRESH, LOAD, TAKE, EXPAND, ENCIPHER, DECIPHER, BY_MATRIX, BACK_BY_MATRIX, SEAL, OPEN, STREAM, TAG, CHECK, WHATS };
+enum what { FRESH, LOAD, TAKE, EXPAND, ENCIPHER, DECIPHER, BY_MATRIX, BACK_BY_MATRIX, SEAL, OPEN, STREAM, TAG, CHECK, WRAP, UNWRAP, WHATS };
 static const char *const names[WHATS] = {"store_fresh", "store_load", "store_take", "expand", "key_encipher", "key_decipher", "key_encipher_by_matrix",
-                                         "key_decipher_by_matrix", "key_cbc_seal", "key_cbc_open", "key_ctr", "key_cmac", "key_cmac_verify"};
+                                         "key_decipher_by_matrix", "key_cbc_seal", "key_cbc_open", "key_ctr", "key_cmac", "key_cmac_verify", "key_wrap", "key_unwrap"};
 
 /* FIRST is the substitution, the key, the start block or the tag to be verified; SECOND the row, the source or the message; OUT the
  * destination, the tag to be made or *yes. a, b and c are publisher and set, or n, l and set, or q. */
@@ -44,7 +45,9 @@ __attribute__((noinline)) static uint8_t ask_library(const struct asked *q)
     case OPEN: return labyrinth_key_cbc_open(RUN_OF);
     case STREAM: return labyrinth_key_ctr(KEYED, at[FIRST], len[FIRST], q->a, at[SECOND], len[SECOND], at[OUT], len[OUT]);
     case TAG: return labyrinth_key_cmac(BLOCK_OF);
-    default: return labyrinth_key_cmac_verify(KEYED, at[SECOND], len[SECOND], at[FIRST], len[FIRST], at[OUT]);
+    case CHECK: return labyrinth_key_cmac_verify(KEYED, at[SECOND], len[SECOND], at[FIRST], len[FIRST], at[OUT]);
+    case WRAP: return labyrinth_key_wrap(BLOCK_OF);
+    default: return labyrinth_key_unwrap(BLOCK_OF);
     }
 }
 
@@ -53,6 +56,10 @@ static uint8_t (*ask)(const struct asked *) = ask_library; /* or a stub in its p
 static int is_block(enum what what) { return what >= ENCIPHER && what <= BACK_BY_MATRIX; }
 
 static int is_run(enum what what) { return what >= SEAL && what <= STREAM; }
+
+static int tags_it(enum what what) { return what == TAG || what == CHECK; }
+
+static int wraps(enum what what) { return what == WRAP || what == UNWRAP; }
 
 static int takes(enum what what, enum lent b)
 {
@@ -96,6 +103,75 @@ static int is_held(const uint8_t *store, uint64_t set)
     return set == 0 || number_at(store + MARKS) == set || number_at(store + MARKS + 8) == set;
 }
 
+/* ---- wrapping as SP 800-38F has it, its semiblocks moving, over the library's block */
+
+enum { SEMI = 8, MOST_KEY = 128, MOST_WRAPPED = MOST_KEY + SEMI };
+
+static void block_of(int back, const uint8_t *store, const uint8_t *working, const uint8_t *from, uint8_t *to)
+{
+    uint8_t number = back ? labyrinth_key_decipher(store, STORE_LEN, working, WORKING_LEN, from, 16, to, 16)
+                          : labyrinth_key_encipher(store, STORE_LEN, working, WORKING_LEN, from, 16, to, 16);
+    if (number != 0) wrong("a block for wrapping is refused with %d", number);
+}
+
+/* Algorithm 1 on A and the key behind it, len bytes together. */
+static void steps_on(const uint8_t *store, const uint8_t *working, uint8_t *string, size_t len)
+{
+    uint8_t block[16];
+    for (size_t t = 1; t <= 6 * (len / SEMI - 1); t++) {
+        block_of(0, store, working, string, block);
+        memmove(string + SEMI, string + 2 * SEMI, len - 2 * SEMI);
+        memcpy(string, block, SEMI);
+        memcpy(string + len - SEMI, block + SEMI, SEMI);
+        string[SEMI - 1] ^= (uint8_t)t; /* at most 96 */
+    }
+}
+
+/* Algorithm 2, the other way. */
+static void steps_back(const uint8_t *store, const uint8_t *working, uint8_t *string, size_t len)
+{
+    uint8_t joined[16], block[16];
+    for (size_t t = 6 * (len / SEMI - 1); t > 0; t--) {
+        memcpy(joined, string, SEMI);
+        memcpy(joined + SEMI, string + len - SEMI, SEMI);
+        joined[SEMI - 1] ^= (uint8_t)t;
+        block_of(1, store, working, joined, block);
+        memmove(string + 2 * SEMI, string + SEMI, len - 2 * SEMI);
+        memcpy(string, block, 2 * SEMI);
+    }
+}
+
+static const uint8_t check_value[SEMI] = {0xA6, 0xA6, 0xA6, 0xA6, 0xA6, 0xA6, 0xA6, 0xA6};
+
+/* A key wrapped with such a check value, len + 8 bytes. */
+static void wrap_by_blocks(const uint8_t *store, const uint8_t *working, const uint8_t *check, const uint8_t *key, size_t len, uint8_t *wrapped)
+{
+    memcpy(wrapped, check, SEMI);
+    memcpy(wrapped + SEMI, key, len);
+    steps_on(store, working, wrapped, len + SEMI);
+}
+
+/* Whether the check value is right; the key, len - 8 bytes. */
+static int unwrap_by_blocks(const uint8_t *store, const uint8_t *working, const uint8_t *wrapped, size_t len, uint8_t *key)
+{
+    uint8_t string[MOST_WRAPPED];
+    memcpy(string, wrapped, len);
+    steps_back(store, working, string, len);
+    memcpy(key, string + SEMI, len - SEMI);
+    return memcmp(string, check_value, SEMI) == 0;
+}
+
+/* By the lengths of source and destination, and then the check value. */
+static uint8_t wrapping_number(const struct asked *q)
+{
+    size_t from = q->len[SECOND], to = q->len[OUT], least = q->what == WRAP ? 16 : 24, most = q->what == WRAP ? MOST_KEY : MOST_WRAPPED;
+    uint8_t key[MOST_KEY];
+    if (from < least || from > most || from % SEMI != 0) return 17;
+    if (q->what == WRAP) return to == from + SEMI ? 0 : 5;
+    if (to != from - SEMI) return 5;
+    return unwrap_by_blocks(q->at[STORE], q->at[WORKING], q->at[SECOND], from, key) ? 0 : 18;
+}
+
 static uint8_t expected_number(const struct asked *q)
 {
     const size_t *len = q->len;
@@ -116,9 +192,10 @@ static uint8_t expected_number(const struct asked *q)
     if (expands && l != 2 && l != 3 && l != 4) return 2;
     if (!is_loaded(store, set)) return 15;
     if (expands) return len[FIRST] == 8 * n * l ? 0 : 3;
-    if (q->what >= TAG && n != 1) return 12;
+    if ((tags_it(q->what) || wraps(q->what)) && n != 1) return 12;
+    if (wraps(q->what)) return wrapping_number(q);
     size_t tag = len[q->what == TAG ? OUT : FIRST];
-    if (q->what >= TAG) return tag < 8 || tag > 16 ? 11 : 0;
+    if (tags_it(q->what)) return tag < 8 || tag > 16 ? 11 : 0;
     if (is_run(q->what) && len[FIRST] != 16 * n) return 6;
     if (is_block(q->what) && len[SECOND] != 16 * n) return 4;
     if ((q->what == SEAL || q->what == OPEN) && len[SECOND] % (16 * n) != 0) return 4;
@@ -129,9 +206,10 @@ static uint8_t expected_number(const struct asked *q)
 
 enum { ROOM = 2048, MARGIN = 64 };
 static uint8_t space[LENTS][ROOM + 2 * MARGIN], kept[LENTS][ROOM + 2 * MARGIN], first_fresh[STORE_LEN];
-static long asked_calls, seen[WHATS][17];
+enum { LAST_NUMBER = 18 };
+static long asked_calls, seen[WHATS][LAST_NUMBER + 1];
 
-/* Whether a call that was done wrote what it is to write; blocks, runs and tags are looked at elsewhere. */
+/* Whether a call that was done wrote what it is to write; blocks, runs and tags are looked at elsewhere, and wrapped keys there too. */
 static int changed_right(const struct asked *q, const uint8_t *store)
 {
     uint8_t after[STORE_LEN];
@@ -140,6 +218,12 @@ static int changed_right(const struct asked *q, const uint8_t *store)
         int right = n == q->a && number_at(q->at[WORKING] + 8) == q->c;
         for (uint64_t i = 8 * n; i < 32; i++) right = right && number_at(q->at[WORKING] + 16 + 8 * i) == 0;
         return right;
+    }
+    if (wraps(q->what)) {
+        uint8_t right[MOST_WRAPPED];
+        if (q->what == WRAP) wrap_by_blocks(q->at[STORE], q->at[WORKING], check_value, q->at[SECOND], q->len[SECOND], right);
+        if (q->what == UNWRAP) unwrap_by_blocks(q->at[STORE], q->at[WORKING], q->at[SECOND], q->len[SECOND], right);
+        return memcmp(q->at[OUT], right, q->len[OUT]) == 0;
     }
     if (q->what > TAKE) return 1;
     memcpy(after, q->what == FRESH ? first_fresh : store, STORE_LEN);
@@ -243,6 +327,22 @@ static void store_grid(enum what only)
                 }
 }
 
+/* A source for unwrapping: wrapped under this key, wrapped so with one bit of the check value wrong, wrapped so and then altered by one bit, or
+ * any bytes. Where nothing can be wrapped it is any bytes. */
+static void put_source(const struct asked *q, uint8_t *store, uint8_t *working, uint8_t *at, int way)
+{
+    size_t len = q->len[SECOND];
+    uint64_t n = q->len[WORKING] == WORKING_LEN ? number_at(working) : 0;
+    uint8_t check[SEMI], key[MOST_KEY];
+    fill(at, len);
+    if (q->len[STORE] != STORE_LEN || n != 1 || !is_loaded(store, number_at(working + 8)) || len < 24 || len > MOST_WRAPPED || len % SEMI != 0 || way == 3) return;
+    fill(key, len - SEMI);
+    memcpy(check, check_value, SEMI);
+    if (way == 1) check[below(SEMI)] ^= (uint8_t)(1 << below(8));
+    wrap_by_blocks(store, working, check, key, len - SEMI, at);
+    if (way == 2) at[below(len)] ^= (uint8_t)(1 << below(8));
+}
+
 /* The rest: each record's length, n, l, set and other length with each. */
 static void key_grid(enum what only)
 {
@@ -262,7 +362,14 @@ static void key_grid(enum what only)
                         q.len[SECOND] = second[k / 4 % 5];
                         q.len[FIRST] = first;
                         q.len[OUT] = k / 20 == 0 ? q.len[SECOND] : k / 20 == 1 ? q.len[SECOND] + 1 : k / 20 == 2 ? 0 : 16 * n;
-                        if (what >= TAG) q.len[what == TAG ? OUT : FIRST] = (size_t)k % 20;
+                        if (tags_it(q.what)) q.len[what == TAG ? OUT : FIRST] = (size_t)k % 20;
+                        if (wraps(q.what)) {
+                            size_t least = what == WRAP ? 16 : 24, sources[] = {least, least + 112, least + 8 * below(14) + 1 + below(7), least - 8, least + 120};
+                            size_t from = sources[k / 4 % 5], right = what == WRAP ? from + 8 : from - 8;
+                            q.len[SECOND] = from;
+                            q.len[OUT] = k / 20 == 0 ? right : k / 20 == 1 ? from : k / 20 == 2 ? 0 : right + 1;
+                        }
+                        if (what == UNWRAP) put_source(&q, space[STORE] + MARGIN, space[WORKING] + MARGIN, space[SECOND] + MARGIN, k % 4);
                         if (what == CHECK) q.len[OUT] = 1;
                         if (what == STREAM) q.a = next();
                         if (what == EXPAND) {
@@ -275,8 +382,35 @@ static void key_grid(enum what only)
                     }
 }
 
+/* Wrapping and unwrapping: each length of source and of destination, from 0 to 144, with each, by set 0 and another; a source that can be unwrapped is
+ * mostly a wrapped key. */
+static void wrap_grid(enum what only)
+{
+    enum { MOST_TRIED = 144 };
+    for (int what = WRAP; what <= UNWRAP; what++)
+        for (uint64_t set = 0; set < 2 && (only == WHATS || (int)only == what); set++)
+            for (size_t from = 0; from <= MOST_TRIED && !enough(); from++) {
+                by_hand(space[STORE] + MARGIN, below(6), below(6));
+                fill(space[WORKING] + MARGIN, WORKING_LEN);
+                put_number(space[WORKING] + MARGIN, 1);
+                put_number(space[WORKING] + MARGIN + 8, set);
+                for (size_t to = 0; to <= MOST_TRIED; to++) {
+                    struct asked q = {.what = (enum what)what, .len = {STORE_LEN, WORKING_LEN, 0, from, to}};
+                    int fits = to + SEMI == from, way = fits || below(8) == 0 ? 0 : 3;
+                    if (what == WRAP) fill(space[SECOND] + MARGIN, from);
+                    if (what == UNWRAP) put_source(&q, space[STORE] + MARGIN, space[WORKING] + MARGIN, space[SECOND] + MARGIN, way);
+                    one_call(&q);
+                    for (way = 1; way < 4 && what == UNWRAP && fits; way++) {
+                        put_source(&q, space[STORE] + MARGIN, space[WORKING] + MARGIN, space[SECOND] + MARGIN, way);
+                        one_call(&q);
+                    }
+                }
+            }
+}
+
 /* a bit for each number that a function gives */
-static const int given_by[WHATS] = {0x11, 0x1E011, 0x8011, 0x801F, 0x8033, 0x8033, 0x8033, 0x8033, 0x8073, 0x8073, 0x8073, 0x9813, 0x9813};
+static const int given_by[WHATS] = {0x11,   0x1E011, 0x8011, 0x801F, 0x8033, 0x8033,  0x8033, 0x8033,
+                                    0x8073, 0x8073,  0x8073, 0x9813, 0x9813, 0x29033, 0x69033};
 
 static void grids(enum what only)
 {
@@ -284,9 +418,10 @@ static void grids(enum what only)
     for (int b = 0; b < LENTS; b++) fill(space[b], sizeof space[b]);
     if (only == WHATS || only <= TAKE) store_grid(only);
     if (only == WHATS || only > TAKE) key_grid(only);
+    if (only == WHATS || wraps(only)) wrap_grid(only);
     if (enough() || only != WHATS) return;
     for (int what = 0; what < WHATS; what++)
-        for (int number = 0; number <= 16; number++)
+        for (int number = 0; number <= LAST_NUMBER; number++)
             if ((given_by[what] >> number & 1) != (seen[what][number] > 0))
                 wrong("%s: the grid has %ld calls with the number %d", names[what], seen[what][number], number);
 }
@@ -364,8 +499,73 @@ static void same(const char *what, size_t n, uint64_t set, const uint8_t *a, con
     if (len && memcmp(a, b, len) != 0) wrong("n %zu, set %d: %s", n, (int)set, what);
 }
 
-/* With such a working key, a store that has its set and another: a block, CBC, CTR and tags over the block's own function, and back with the
- * other store. With set 0 all is what the functions that take a key give. */
+/* A source that isn't what wrapping makes: 18, and the destination is as it was. */
+static void not_taken(const char *why, const uint8_t *store, const uint8_t *working, const uint8_t *wrapped, size_t len)
+{
+    uint8_t key[MOST_KEY], before[MOST_KEY];
+    struct asked call = {.what = UNWRAP, .len = {STORE_LEN, WORKING_LEN, 0, len, len - SEMI}};
+    call.at[STORE] = (uint8_t *)(uintptr_t)store;
+    call.at[WORKING] = (uint8_t *)(uintptr_t)working;
+    call.at[SECOND] = (uint8_t *)(uintptr_t)wrapped;
+    call.at[OUT] = key;
+    fill(key, sizeof key);
+    memcpy(before, key, sizeof key);
+    asked_calls++;
+    uint8_t number = ask(&call);
+    if (number != 18) wrong("%s: %d, not 18: %s", names[UNWRAP], number, why);
+    if (memcmp(key, before, sizeof key) != 0) wrong("%s: bytes written: %s", names[UNWRAP], why);
+}
+
+/* A key of each length wrapped over the block's own function, and unwrapped with the other store; altered, or under another key, it isn't taken. */
+static void wrapping_laws(const uint8_t *store, const uint8_t *other, const uint8_t *working, uint64_t set)
+{
+    uint8_t key[MOST_KEY], wrapped[MOST_WRAPPED], right[MOST_WRAPPED], back[MOST_KEY], second[WORKING_LEN];
+    memcpy(second, working, WORKING_LEN);
+    second[16 + below(64)] ^= (uint8_t)(1 << below(8));
+    for (size_t len = 16; len <= MOST_KEY; len += SEMI) {
+        fill(key, len);
+        wrap_by_blocks(store, working, check_value, key, len, right);
+        done(WRAP, store, working, NULL, 0, key, len, wrapped, len + SEMI, 0);
+        same("not KW over the block", 1, set, wrapped, right, len + SEMI);
+        done(UNWRAP, other, working, NULL, 0, wrapped, len + SEMI, back, len, 0);
+        same("a wrapped key does not unwrap", 1, set, back, key, len);
+        not_taken("under another key", store, second, wrapped, len + SEMI);
+        wrapped[below(len + SEMI)] ^= (uint8_t)(1 << below(8));
+        not_taken("altered", store, working, wrapped, len + SEMI);
+    }
+}
+
+/* Every bit of the check value, and at wrapped keys of three lengths every bit, altered. How many bits. */
+static long wrapped_bits(void)
+{
+    static const size_t lengths[] = {16, 56, MOST_KEY};
+    uint8_t store[STORE_LEN], working[WORKING_LEN], key[MOST_KEY], check[SEMI], wrapped[MOST_WRAPPED];
+    long bits = 0;
+    for (uint64_t set = 0; set < 2; set++)
+        for (int i = 0; i < COUNT(lengths); i++) {
+            by_hand(store, 4, 4);
+            fill(working, WORKING_LEN);
+            put_number(working, 1);
+            put_number(working + 8, set);
+            fill(key, lengths[i]);
+            for (size_t bit = 0; bit < 8 * SEMI && !enough(); bit++, bits++) {
+                memcpy(check, check_value, SEMI);
+                check[bit / 8] ^= (uint8_t)(1 << bit % 8);
+                wrap_by_blocks(store, working, check, key, lengths[i], wrapped);
+                not_taken("one bit of the check value is wrong", store, working, wrapped, lengths[i] + SEMI);
+            }
+            wrap_by_blocks(store, working, check_value, key, lengths[i], wrapped);
+            for (size_t bit = 0; bit < 8 * (lengths[i] + SEMI) && !enough(); bit++, bits++) {
+                wrapped[bit / 8] ^= (uint8_t)(1 << bit % 8);
+                not_taken("one bit altered", store, working, wrapped, lengths[i] + SEMI);
+                wrapped[bit / 8] ^= (uint8_t)(1 << bit % 8);
+            }
+        }
+    return bits;
+}
+
+/* With such a working key, a store that has its set and another: a block, CBC, CTR, tags and wrapped keys over the block's own function, and back
+ * with the other store. With set 0 all is what the functions that take a key give. */
 static void laws_of(const uint8_t *store, const uint8_t *other, const uint8_t *working, size_t n, size_t l, uint64_t set, const uint8_t *key, size_t blocks)
 {
     size_t block = 16 * n, whole = blocks * block, all = whole + 5, key_len = 8 * n * l;
@@ -437,6 +637,7 @@ static void laws_of(const uint8_t *store, const uint8_t *other, const uint8_t *w
     }
     if (set == 0 && labyrinth_cmac(l, key, key_len, src, all, tag, 16) != 0) wrong("cmac refused");
     if (set == 0) same("not labyrinth_cmac's tag", n, set, tag, stream, 16);
+    wrapping_laws(store, other, working, set);
 }
 
 /* All sizes and sets: keys expanded with one store and used with it and with another that has the same set; words past 8n that mean nothing;
@@ -466,6 +667,10 @@ static void set_laws(size_t blocks)
                 any_row(other + SET * set + 256);
                 done(ENCIPHER, other, working, NULL, 0, block, 16 * n, two, 16 * n, 0);
                 if (memcmp(one, two, 16 * n) == 0) wrong("n %zu, set %d: a row loaded anew changes no block", n, (int)set);
+                if (n == 1) {
+                    done(WRAP, store, working, NULL, 0, key, 16, two, 24, 0);
+                    not_taken("a row loaded anew", other, working, two, 24);
+                }
                 fill(second + 16, WORKING_LEN - 16); /* a working key made by hand */
                 laws_of(store, store, second, n, l, set, key, 2);
             }
@@ -514,13 +719,14 @@ static long far_records(void)
     for (int what = 0; what < WHATS; what++)
         for (int b = 0; b < LENTS; b++) {
             struct asked q = {.what = (enum what)what, .a = what == EXPAND, .b = what == EXPAND ? 2 : 1, .len = {STORE_LEN, WORKING_LEN, 16, 16, 16}};
-            if (!takes(q.what, (enum lent)b) || (b == OUT && what == CHECK) || (b == SECOND && what >= TAG)) continue;
+            if (!takes(q.what, (enum lent)b) || (b == OUT && what == CHECK) || (b == SECOND && tags_it(q.what))) continue;
             by_hand(space[STORE] + MARGIN, 4, 4);
             put_number(space[WORKING] + MARGIN, 1);
             put_number(space[WORKING] + MARGIN + 8, what % 2);
             shuffle(space[FIRST] + MARGIN);
             any_row(space[SECOND] + MARGIN);
             if (what == LOAD) q.len[FIRST] = 256, q.len[SECOND] = 8;
+            if (wraps(q.what)) q.len[what == WRAP ? OUT : SECOND] = 24;
             for (int i = 0; i < LENTS; i++) q.at[i] = space[i] + MARGIN;
             q.at[b] = far_off;
             q.len[b] += far;
@@ -535,7 +741,8 @@ static long far_records(void)
     return calls;
 }
 
-/* ---- lent memory: each buffer flush against a page that cannot be touched, what is only read not to be written */
+/* ---- lent memory: each buffer flush against a page that cannot be touched, what is only read not to be written; nor, if a key is refused to be wrapped or
+ * unwrapped, the destination, not while the call runs either */
 
 static size_t lent_size;
 static uint8_t *lent[LENTS];
@@ -562,7 +769,8 @@ static void records_case(enum what only, int place)
     if (q.what == LOAD) len[FIRST] = 256, len[SECOND] = 8;
     if (q.what == EXPAND) len[FIRST] = 8 * (size_t)(n * q.b);
     if (q.what == SEAL || q.what == OPEN) len[SECOND] -= len[SECOND] % block;
-    len[OUT] = q.what == CHECK ? 1 : q.what == TAG ? 8 + below(9) : len[SECOND];
+    if (wraps(q.what)) len[SECOND] = (q.what == WRAP ? 16 : 24) + SEMI * below(15);
+    len[OUT] = q.what == CHECK ? 1 : q.what == TAG ? 8 + below(9) : q.what == WRAP ? len[SECOND] + SEMI : q.what == UNWRAP ? len[SECOND] - SEMI : len[SECOND];
     if (q.what == CHECK) len[FIRST] = 8 + below(9);
     size_t odd = below(12); /* now and then a buffer of another length */
     if (odd < LENTS && !(q.what == CHECK && odd == OUT)) len[odd] = below(2) ? below(lent_size) : len[odd] + 1;
@@ -577,10 +785,11 @@ static void records_case(enum what only, int place)
     if (q.len[STORE] >= STORE_LEN) by_hand(q.at[STORE], below(6), below(6));
     if (q.len[WORKING] >= 16) put_number(q.at[WORKING], below(12) ? n : 3), put_number(q.at[WORKING] + 8, below(4) ? below(2) : below(5));
     if (q.what == LOAD && q.len[FIRST] >= 256) shuffle(q.at[FIRST]);
+    if (q.what == UNWRAP) put_source(&q, q.at[STORE], q.at[WORKING], q.at[SECOND], below(2) ? 0 : 1 + (int)below(3));
     for (int b = 0; b < LENTS; b++) memcpy(before[b], lent[b], lent_size);
     uint8_t number = expected_number(&q);
     for (int b = 0; b < LENTS; b++)
-        if ((enum lent)b != written_by(q.what) && mprotect(lent[b], lent_size, PROT_READ) != 0) stop("mprotect");
+        if (((enum lent)b != written_by(q.what) || (wraps(q.what) && number != 0)) && mprotect(lent[b], lent_size, PROT_READ) != 0) stop("mprotect");
     uint8_t got = ask(&q);
     for (int b = 0; b < LENTS; b++)
         if (mprotect(lent[b], lent_size, PROT_READ | PROT_WRITE) != 0) stop("mprotect");
@@ -589,6 +798,7 @@ static void records_case(enum what only, int place)
     size_t from = q.at[w] ? (size_t)(q.at[w] - lent[w]) : 0, to = from + (number == 0 || q.what == CHECK ? q.len[w] : 0);
     if (memcmp(lent[w], before[w], from) != 0 || memcmp(lent[w] + to, before[w] + to, lent_size - to) != 0)
         wrong("%s: on lent memory number %d, and bytes written that are not to be", names[q.what], got);
+    if (wraps(q.what) && number == 0 && got == 0 && !changed_right(&q, q.at[STORE])) wrong("%s: on lent memory another key", names[q.what]);
 }
 
 static int records_memory(enum what only, uint64_t seed, long cases, int place)
@@ -624,7 +834,7 @@ static size_t records_stack(size_t *each)
     size_t most = 0;
     for (int what = 0; what < WHATS; what++) {
         each[what] = 0;
-        for (size_t n = 1; n <= (what >= TAG ? 1 : 4); n *= 2)
+        for (size_t n = 1; n <= (what >= TAG ? 1 : 4); n *= 2) /* n is 1 for tags and wrapped keys */
             for (uint64_t set = 0; set < 3; set++)
                 for (int i = 0; i < COUNT(lengths); i++) {
                     by_hand(store, 4, 4);
@@ -639,6 +849,12 @@ static size_t records_stack(size_t *each)
                     if (what == EXPAND) there.len[FIRST] = 32 * n;
                     if (what == CHECK) there.len[FIRST] = 16;
                     there.len[OUT] = what == TAG ? 16 : there.len[SECOND];
+                    if (wraps(there.what)) { /* from the shortest key to the longest, which unwraps */
+                        size_t key_len = 16 + 28 * (size_t)i / SEMI * SEMI;
+                        there.len[what == WRAP ? SECOND : OUT] = key_len;
+                        there.len[what == WRAP ? OUT : SECOND] = key_len + SEMI;
+                        if (what == UNWRAP) put_source(&there, store, working, src, 0);
+                    }
                     size_t used = stack_by(ask_there);
                     if (used > LABYRINTH_STACK) wrong("%s: %zu bytes of stack, and the header says %d", names[what], used, LABYRINTH_STACK);
                     if (used > each[what]) each[what] = used;
@@ -651,7 +867,7 @@ static size_t records_stack(size_t *each)
 /* ---- stubs: each does what the library does, but for one thing, and the trials must notice */
 
 enum fault { HONEST, EXCHANGES, TOUCHES, KEEPS_OLD, ALTERS, READS_SET_0, MARK_AS_3, FORGETS_MARK, HOLDS_LOADED, CUTS_SET, CUTS_N, LEAVES_YES, TAKES_LONGER,
-             READS_PAST, READS_BEFORE, WRITES, DEEP };
+             FIVE_FIRST, CHECKS_FIRST, LOOKS_AT_4, UNDOES, READS_PAST, READS_BEFORE, WRITES, DEEP };
 static struct { enum fault fault; enum what what; enum lent lent; uint8_t from, to; } faulty;
 
 static uint8_t ask_stub(const struct asked *given)
@@ -708,6 +924,18 @@ static uint8_t ask_stub(const struct asked *given)
     if (faulty.fault == KEEPS_OLD && number == 0) memcpy(given->at[w], copy, given->len[w]);
     if (faulty.fault == ALTERS && number == 0 && given->len[w]) given->at[w][below(given->len[w])] ^= (uint8_t)(1 << below(8));
     if (faulty.fault == EXCHANGES && number == faulty.from) return faulty.to;
+    if (faulty.fault == FIVE_FIRST && number == 17 && q.len[OUT] != q.len[SECOND] + SEMI && q.len[OUT] + SEMI != q.len[SECOND]) return 5;
+    uint8_t unwrapped[MOST_KEY];
+    if (faulty.fault == CHECKS_FIRST && number == 5 && !unwrap_by_blocks(q.at[STORE], q.at[WORKING], q.at[SECOND], q.len[SECOND], unwrapped)) return 18;
+    if (faulty.fault == UNDOES && number == 18) *(volatile uint8_t *)q.at[OUT] ^= 1, *(volatile uint8_t *)q.at[OUT] ^= 1;
+    if (faulty.fault == LOOKS_AT_4 && number == 18) {
+        uint8_t string[MOST_WRAPPED];
+        memcpy(string, q.at[SECOND], q.len[SECOND]);
+        steps_back(q.at[STORE], q.at[WORKING], string, q.len[SECOND]);
+        if (memcmp(string, check_value, 4) != 0) return number;
+        memcpy(q.at[OUT], string + SEMI, q.len[OUT]);
+        return 0;
+    }
     return number;
 }
 
@@ -720,6 +948,7 @@ static long tried_all(uint64_t seed)
     chance = seed;
     history(200);
     if (!failures) set_laws(2);
+    if (!failures && (faulty.what == WHATS || faulty.what == UNWRAP)) wrapped_bits();
     if (!failures) grids(faulty.what);
     if (!failures) far_records();
     found = failures;
@@ -750,6 +979,13 @@ int try_record_stubs(uint64_t seed)
         {CUTS_N, BY_MATRIX, WORKING, 0, 0, "takes n modulo 2^32"}, {CUTS_N, STREAM, WORKING, 0, 0, "takes n modulo 2^32"},
         {LEAVES_YES, CHECK, OUT, 0, 0, "leaves yes as it was on refusal"}, {TAKES_LONGER, WHATS, STORE, 0, 0, "takes a longer store"},
         {TAKES_LONGER, WHATS, WORKING, 0, 0, "takes a longer working key"},
+        {EXCHANGES, WRAP, STORE, 12, 17, "gives 17 for"}, {EXCHANGES, WRAP, STORE, 15, 12, "gives 12 for"}, {EXCHANGES, WRAP, STORE, 17, 4, "gives 4 for"},
+        {EXCHANGES, WRAP, STORE, 5, 17, "gives 17 for"}, {EXCHANGES, UNWRAP, STORE, 18, 17, "gives 17 for"}, {EXCHANGES, UNWRAP, STORE, 18, 0, "gives 0 for"},
+        {EXCHANGES, UNWRAP, STORE, 5, 18, "gives 18 for"}, {EXCHANGES, UNWRAP, STORE, 12, 15, "gives 15 for"}, {FIVE_FIRST, WRAP, OUT, 0, 0, "looks for 5 before 17"},
+        {FIVE_FIRST, UNWRAP, OUT, 0, 0, "looks for 5 before 17"}, {CHECKS_FIRST, UNWRAP, OUT, 0, 0, "looks for 18 before 5"},
+        {LOOKS_AT_4, UNWRAP, OUT, 0, 0, "looks at half of the check value"}, {READS_SET_0, WRAP, STORE, 0, 0, "reads set 0 from the store"},
+        {READS_SET_0, UNWRAP, STORE, 0, 0, "reads set 0 from the store"}, {CUTS_SET, WRAP, WORKING, 0, 0, "takes a set modulo 256"},
+        {CUTS_N, UNWRAP, WORKING, 0, 0, "takes n modulo 2^32"},
     };
     int trials = 0;
     ask = ask_stub;
@@ -772,7 +1008,7 @@ int try_record_stubs(uint64_t seed)
         faulty.fault = ALTERS;
         trials += noticed(tried_all(seed) > 0, "alters a bit");
         faulty.fault = TOUCHES;
-        for (faulty.from = 1; faulty.from <= 16 && what != CHECK; faulty.from++)
+        for (faulty.from = 1; faulty.from <= LAST_NUMBER && what != CHECK; faulty.from++)
             if (given_by[what] >> faulty.from & 1) trials += noticed(tried_all(seed) > 0, "touches what it is to keep, with the number");
         for (int b = 0; b < LENTS; b++) {
             if (!takes(faulty.what, (enum lent)b)) continue;
@@ -785,6 +1021,9 @@ int try_record_stubs(uint64_t seed)
             if (faulty.lent != written_by(faulty.what)) trials += noticed(records_memory(faulty.what, seed, CASES, PLACE_ANY) == SIGSEGV, "writes to what is only read");
         }
     }
+    faulty.fault = UNDOES;
+    faulty.what = UNWRAP;
+    trials += noticed(records_memory(UNWRAP, seed, CASES, PLACE_ANY) == SIGSEGV, "writes to the destination, and takes it back, with 18");
     size_t each[WHATS];
     long before = failures;
     faulty.fault = DEEP;
@@ -809,6 +1048,9 @@ long records(uint64_t seed, int large, size_t *most)
     history(large ? 100000 : 4000);
     for (size_t blocks = 0; blocks < 6; blocks++) set_laws(blocks);
     set_laws(300); /* over 8 KiB at n = 2 and 4, where the eight tables are used */
+    enum { BITS = 2 * (3 * 64 + 8 * (24 + 64 + 136)) };
+    long bits = wrapped_bits();
+    if (bits != BITS) wrong("%ld bits of wrapped keys altered, not %d", bits, BITS);
     grids(WHATS);
     asked_calls += far_records();
     *most = records_stack(each);

@@ -1,5 +1,5 @@
-// What the benchmark (bench/bench.c) times: many blocks, each by itself, with what the block map needs prepared once; runs; tags; and the
-// merged table of a row.
+// What the benchmark (bench/bench.c) times: many blocks, each by itself, with what the block map needs prepared once; runs; tags; wrapped keys, and
+// beside them as many blocks; and the merged table of a row.
 // It only states what makes it safe: the contracts of the cipher and the runs say what the bytes become.
 use labyrinth::WorkingKey;
 ghost use mathlib.Core.Path.{_≡_};
@@ -124,4 +124,47 @@ pub extern "C" fn sigourta_cmac_verify(words: &[u64; 32], message: &[u8], tag: &
 #[no_mangle]
 pub extern "C" fn sigourta_make_table(row: &[u8; 8], table: &mut [u64]) -> u8 {
     rows::make_table(*row, table)
+}
+
+#[no_mangle]
+pub extern "C" fn sigourta_wrap(words: &[u64; 32], src: &[u8], dst: &mut [u8]) -> u8 {
+    key_wrap::wrap_published(key(1, words), src, dst)
+}
+
+#[no_mangle]
+pub extern "C" fn sigourta_unwrap(words: &[u64; 32], src: &[u8], dst: &mut [u8]) -> u8 {
+    key_wrap::unwrap_published(key(1, words), src, dst)
+}
+
+// Maps a block to another place, and that back to the first, so many times.
+fn to_and_fro(
+    t: &[u64; 256],
+    s: &[u8; 256],
+    u: &[u8; 256],
+    ks: &[u64; 80],
+    pairs: u8,
+    one: &mut [u8],
+    two: &mut [u8],
+) {
+    let mut i = 0u8;
+    while i < pairs {
+        table_cipher::map_block(t, s, u, 1, ks, one, two);
+        table_cipher::map_block(t, s, u, 1, ks, two, one);
+        i += 1;
+    }
+}
+
+// The block calls of a wrapped key and no more: what is lent, prepared as for one, then so many pairs of blocks, each made of the one before.
+#[no_mangle]
+pub extern "C" fn sigourta_block_calls(
+    words: &[u64; 32],
+    pairs: u8,
+    one: &mut [u8],
+    two: &mut [u8],
+) {
+    let t = table_cipher::table();
+    let s = table_cipher::substitution();
+    let u = table_cipher::inverse();
+    let ks = table_cipher::schedule(key(1, words), false);
+    to_and_fro(&t, &s, &u, &ks, pairs, one, two);
 }

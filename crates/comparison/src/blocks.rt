@@ -1,6 +1,7 @@
 // Cases as `given` has them, without a start block:
 //   7  'expand', the number, and n and all 32 words of the key
 //   8 to 11  'encipher table', 'encipher matrix', 'decipher table', 'decipher matrix', the number and the destination
+//   18 and 19  'key wrap', 'key unwrap', the same
 use crate::given;
 use crate::printing;
 use crate::reading;
@@ -35,6 +36,16 @@ fn print_block(kind: u8, k: WorkingKey, src: &[u8], dst: &mut [u8]) {
     }
 }
 
+fn print_key(kind: u8, k: WorkingKey, src: &[u8], dst: &mut [u8]) {
+    if kind == 18 {
+        let number = key_wrap::wrap(sets::fresh(), k, src, dst);
+        printing::answer(b"key wrap ", number, dst);
+    } else {
+        let number = key_wrap::unwrap(sets::fresh(), k, src, dst);
+        printing::answer(b"key unwrap ", number, dst);
+    }
+}
+
 pub fn print_case(kind: u8, case: &[u8]) {
     if kind == 7 {
         print_expanded(case);
@@ -42,5 +53,9 @@ pub fn print_case(kind: u8, case: &[u8]) {
     }
     let mut space = given::space();
     let dst = reading::front(&mut space, given::room(case));
-    print_block(kind, given::working_key(case), given::source(case), dst);
+    if kind < 12 {
+        print_block(kind, given::working_key(case), given::source(case), dst);
+    } else {
+        print_key(kind, given::working_key(case), given::source(case), dst);
+    }
 }

@@ -1,6 +1,6 @@
 // Prints what the library answers to the cases on standard input, a line each. A case is its kind, the length of the rest in 2 bytes, lowest
 // first, and the rest, of at most 2,048 bytes. The modules say what the kinds are: 0 to 2 `field`, 3 to 6 `row`, 7 to 11 `blocks`, 12 to 14
-// `runs`, 15 and 16 `tags`, 17 `steps`.
+// `runs`, 15 and 16 `tags`, 17 `steps`, 18 and 19 `blocks` again.
 mod blocks;
 mod field;
 mod given;
@@ -24,8 +24,10 @@ fn print_case(kind: u8, case: &[u8]) {
         blocks::print_case(kind, case);
     } else if kind < 15 {
         runs::print_case(kind, case);
-    } else {
+    } else if kind < 17 {
         tags::print_case(kind, case);
+    } else {
+        blocks::print_case(kind, case);
     }
 }
 

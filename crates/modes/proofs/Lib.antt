@@ -3,6 +3,7 @@ pub mod Cbc
 pub mod Ctr
 pub mod Doubling
 pub mod Cmac
+pub mod KeyWrap
 pub mod Refusals
 pub mod Again
 pub mod Used

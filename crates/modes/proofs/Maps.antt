@@ -42,8 +42,18 @@ module _ (p : Parts) (n : ℕ) (ws : List ℕ) where
   undone-U s h = record { back = λ b. E-U p s n ws b h }
 
 -- at n = 1 a block has 16 bytes
-pub keeps-one : (p : Parts) (n : ℕ) (ws : List ℕ) → n ≡ 1 → Keeps 16 (E p n ws)
-keeps-one p n ws e = subst (λ (k : ℕ). Keeps (16 * k) (E p n ws)) e (keeps-E p n ws)
+module _ (p : Parts) (n : ℕ) (ws : List ℕ) (e : n ≡ 1) where
+  pub keeps-one : Keeps 16 (E p n ws)
+  keeps-one = subst (λ (k : ℕ). Keeps (16 * k) (E p n ws)) e (keeps-E p n ws)
+
+  pub keeps-one-U : Keeps 16 (U p n ws)
+  keeps-one-U = subst (λ (k : ℕ). Keeps (16 * k) (U p n ws)) e (keeps-U p n ws)
+
+  pub undone-one : Sound p → Small ws → Undone 16 (E p n ws) (U p n ws)
+  undone-one s h = subst (λ (k : ℕ). Undone (16 * k) (E p n ws) (U p n ws)) e (undone-E p n ws s h)
+
+  pub undone-one-U : Sound p → Small ws → Undone 16 (U p n ws) (E p n ws)
+  undone-one-U s h = subst (λ (k : ℕ). Undone (16 * k) (U p n ws) (E p n ws)) e (undone-U p n ws s h)
 
 pub keeps-lent-one : (n : ℕ) (t s u ks : List ℕ) → n ≡ 1 → Keeps 16 (lent n t s u ks)
 keeps-lent-one n t s u ks e = subst (λ (k : ℕ). Keeps (16 * k) (lent n t s u ks)) e (keeps-lent n t s u ks)

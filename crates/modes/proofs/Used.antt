@@ -1,4 +1,4 @@
--- The runs and the tags depend on the used words of a working key only, by any parts.
+-- The runs, the tags and wrapped keys depend on the used words of a working key only, by any parts.
 -- Assumes nothing.
 use mathlib.Core.Path.{_≡_}
 use mathlib.Core.List.{List}
@@ -9,9 +9,11 @@ use Rattle.labyrinth.proofs.Agree.{SameUsed, E-used, U-used}
 use Rattle.modes.specs.Cbc.{cbcSeal, cbcOpen}
 use Rattle.modes.specs.Ctr.{ctr}
 use Rattle.modes.specs.Cmac.{tag, valid}
+use Rattle.modes.specs.KeyWrap.{wrapped, authentic, unwrapped}
 use Rattle.modes.proofs.Cbc.{seal-cong, open-cong}
 use Rattle.modes.proofs.Ctr.{ctr-cong}
 use Rattle.modes.proofs.Cmac.{tag-cong, valid-cong}
+use Rattle.modes.proofs.KeyWrap.{wrapped-cong, authentic-cong, unwrapped-cong}
 
 module _ (p : Parts) (n : ℕ) (ws vs : List ℕ) (same : SameUsed n ws vs) where
   pub seal-used : (z : ℕ) (start m : List ℕ) → cbcSeal (E p n ws) z start m ≡ cbcSeal (E p n vs) z start m
@@ -28,3 +30,12 @@ module _ (p : Parts) (n : ℕ) (ws vs : List ℕ) (same : SameUsed n ws vs) wher
 
   pub valid-used : (m given : List ℕ) → valid (E p n ws) m given ≡ valid (E p n vs) m given
   valid-used = valid-cong (E p n ws) (E p n vs) (E-used p n ws vs same)
+
+  pub wrapped-used : (m : List ℕ) → wrapped (E p n ws) m ≡ wrapped (E p n vs) m
+  wrapped-used = wrapped-cong (E p n ws) (E p n vs) (E-used p n ws vs same)
+
+  pub authentic-used : (c : List ℕ) → authentic (U p n ws) c ≡ authentic (U p n vs) c
+  authentic-used = authentic-cong (U p n ws) (U p n vs) (U-used p n ws vs same)
+
+  pub unwrapped-used : (c : List ℕ) → unwrapped (U p n ws) c ≡ unwrapped (U p n vs) c
+  unwrapped-used = unwrapped-cong (U p n ws) (U p n vs) (U-used p n ws vs same)

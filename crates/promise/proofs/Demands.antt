@@ -143,44 +143,57 @@ unused-words-zero SM i n l key r {answer} taken h = rw h (by-number r taken)
         (length-padded (expandedWords SM n l key) (omega arith), λ j g. padded-zero (expandedWords SM n l key) j (omega arith))
     by-number (suc r) taken = (length-padded [] (omega arith), λ j g. padded-zero [] j (omega arith))
 
--- an operation under a working key, for any set: own is its number by n and the rest r of the arguments, result what it gives by a set's parts, n, the
--- words and the rest, held what its destination held. Two calls under keys alike, with one store, one set named and one rest
-module _ {R : Type 0} (own : ℕ → R → ℕ) (result : Parts → ℕ → List ℕ → R → List ℕ) (held : R → List ℕ) where
+-- an operation under a working key, for any set, by the set's parts, n, the words and the rest r of the arguments: own is its number, result what it
+-- gives, held what its destination held. Two calls under keys alike, with one store, one set named and one rest
+module _ {R : Type 0} (own : Parts → ℕ → List ℕ → R → ℕ) (result : Parts → ℕ → List ℕ → R → List ℕ) (held : R → List ℕ) where
   abbrev pub UnderUsed : Type 0
   UnderUsed =
       (k j : WorkingKey) (g g′ : Store × ℕ × R) (y z : ℕ) (e f : List ℕ) → SameUsed k j → g ≡ g′
-      → (y ≡ underKey (k .n) (loaded (g .0) (g .1)) (own (k .n) (g .2))) × (e ≡ outcome y (result (partsIn (g .0) (g .1)) (k .n) (k .words) (g .2)) (held (g .2)))
-      → (z ≡ underKey (j .n) (loaded (g′ .0) (g′ .1)) (own (j .n) (g′ .2))) × (f ≡ outcome z (result (partsIn (g′ .0) (g′ .1)) (j .n) (j .words) (g′ .2)) (held (g′ .2)))
+      → let m = partsIn (g .0) (g .1) in
+      let m′ = partsIn (g′ .0) (g′ .1) in
+      (y ≡ underKey (k .n) (loaded (g .0) (g .1)) (own m (k .n) (k .words) (g .2))) × (e ≡ outcome y (result m (k .n) (k .words) (g .2)) (held (g .2)))
+      → (z ≡ underKey (j .n) (loaded (g′ .0) (g′ .1)) (own m′ (j .n) (j .words) (g′ .2))) × (f ≡ outcome z (result m′ (j .n) (j .words) (g′ .2)) (held (g′ .2)))
       → (y ≡ z) × (e ≡ f)
 
-  pub under-used : ((p : Parts) (n : ℕ) (ws vs : List ℕ) → Used n ws vs → (r : R) → result p n ws r ≡ result p n vs r) → UnderUsed
-  under-used used k j g g′ y z e f s p u v =
-      let n : ℕ → ℕ = λ i. underKey i (loaded (g .0) (g .1)) (own i (g .2)) in
-      let r : y ≡ z = u .0 ∙ ap n (s .0) ∙ ap (λ (x : Store × ℕ × R). underKey (j .n) (loaded (x .0) (x .1)) (own (j .n) (x .2))) p ∙ sym (v .0) in (
+  pub under-alike : ((p : Parts) (n : ℕ) (ws vs : List ℕ) → Used n ws vs → (r : R) → (own p n ws r ≡ own p n vs r) × (result p n ws r ≡ result p n vs r)) → UnderUsed
+  under-alike used k j g g′ y z e f s p u v =
+      let m = partsIn (g .0) (g .1) in
+      let is = loaded (g .0) (g .1) in
+      let same = used m (k .n) (k .words) (j .words) (s .1) (g .2) in
+      let r : y ≡ z
+      = u .0
+      ∙ ap (underKey (k .n) is) (same .0)
+      ∙ ap (λ (i : ℕ). underKey i is (own m i (j .words) (g .2))) (s .0)
+      ∙ ap (λ (x : Store × ℕ × R). underKey (j .n) (loaded (x .0) (x .1)) (own (partsIn (x .0) (x .1)) (j .n) (j .words) (x .2))) p
+      ∙ sym (v .0) in (
         r,
         u .1
-            ∙ ap₂ (λ (i : ℕ) (x : List ℕ). outcome i x (held (g .2))) r
-            (used (partsIn (g .0) (g .1)) (k .n) (k .words) (j .words) (s .1) (g .2) ∙ ap (λ (i : ℕ). result (partsIn (g .0) (g .1)) i (j .words) (g .2)) (s .0))
+            ∙ ap₂ (λ (i : ℕ) (x : List ℕ). outcome i x (held (g .2))) r (same .1 ∙ ap (λ (i : ℕ). result m i (j .words) (g .2)) (s .0))
             ∙ ap (λ (x : Store × ℕ × R). outcome z (result (partsIn (x .0) (x .1)) (j .n) (j .words) (x .2)) (held (x .2))) p
             ∙ sym (v .1),
       )
 
+-- where the number is by n and the rest alone
+pub under-used : {R : Type 0} (own : ℕ → R → ℕ) (result : Parts → ℕ → List ℕ → R → List ℕ) (held : R → List ℕ)
+    → ((p : Parts) (n : ℕ) (ws vs : List ℕ) → Used n ws vs → (r : R) → result p n ws r ≡ result p n vs r) → UnderUsed (λ p n ws r. own n r) result held
+under-used own result held used = under-alike (λ p n ws r. own n r) result held (λ p n ws vs s r. (refl, used p n ws vs s r))
+
 -- a block, a chained run, a counted one
-pub enciphers-used : UnderUsed {R = List ℕ × List ℕ} (λ n r. blockRefusal n (length (r .0)) (length (r .1))) (λ p n ws r. E p n ws (r .0)) (λ r. r .1)
+pub enciphers-used : UnderUsed {R = List ℕ × List ℕ} (λ p n ws r. blockRefusal n (length (r .0)) (length (r .1))) (λ p n ws r. E p n ws (r .0)) (λ r. r .1)
 enciphers-used = under-used _ _ _ (λ p n ws vs s r. E-used p n ws vs s (r .0))
 
-pub deciphers-used : UnderUsed {R = List ℕ × List ℕ} (λ n r. blockRefusal n (length (r .0)) (length (r .1))) (λ p n ws r. U p n ws (r .0)) (λ r. r .1)
+pub deciphers-used : UnderUsed {R = List ℕ × List ℕ} (λ p n ws r. blockRefusal n (length (r .0)) (length (r .1))) (λ p n ws r. U p n ws (r .0)) (λ r. r .1)
 deciphers-used = under-used _ _ _ (λ p n ws vs s r. U-used p n ws vs s (r .0))
 
-pub seals-used : UnderUsed {R = List ℕ × List ℕ × List ℕ} (λ n r. cbcRefusal n (length (r .0)) (length (r .1)) (length (r .2)))
+pub seals-used : UnderUsed {R = List ℕ × List ℕ × List ℕ} (λ p n ws r. cbcRefusal n (length (r .0)) (length (r .1)) (length (r .2)))
     (λ p n ws r. cbcSeal (E p n ws) (16 * n) (r .0) (r .1)) (λ r. r .2)
 seals-used = under-used _ _ _ (λ p n ws vs s r. seal-used p n ws vs s (16 * n) (r .0) (r .1))
 
-pub opens-used : UnderUsed {R = List ℕ × List ℕ × List ℕ} (λ n r. cbcRefusal n (length (r .0)) (length (r .1)) (length (r .2)))
+pub opens-used : UnderUsed {R = List ℕ × List ℕ × List ℕ} (λ p n ws r. cbcRefusal n (length (r .0)) (length (r .1)) (length (r .2)))
     (λ p n ws r. cbcOpen (U p n ws) (16 * n) (r .0) (r .1)) (λ r. r .2)
 opens-used = under-used _ _ _ (λ p n ws vs s r. open-used p n ws vs s (16 * n) (r .0) (r .1))
 
-pub runs-used : UnderUsed {R = List ℕ × ℕ × List ℕ × List ℕ} (λ n r. ctrRefusal n (length (r .0)) (length (r .2)) (length (r .3)))
+pub runs-used : UnderUsed {R = List ℕ × ℕ × List ℕ × List ℕ} (λ p n ws r. ctrRefusal n (length (r .0)) (length (r .2)) (length (r .3)))
     (λ p n ws r. ctr (E p n ws) (16 * n) (r .0) (r .1) (r .2)) (λ r. r .3)
 runs-used = under-used _ _ _ (λ p n ws vs s r. ctr-used p n ws vs s (16 * n) (r .0) (r .1) (r .2))
 

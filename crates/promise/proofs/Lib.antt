@@ -2,3 +2,4 @@ pub mod Values
 pub mod Demands
 pub mod Requests
 pub mod Stores
+pub mod Keys

@@ -116,7 +116,7 @@ answers-verifying k message given {answer} h =
     (cmac-number (k .n) (length given) p, λ z. ap (λ (v : Verified). v .yes) (h ∙ sym (refused-no e message given r refl (λ y. z (p ∙ y)))))
 
 -- document 01: later answers depend on the used words only, for any set
-pub tags-used : UnderUsed {R = List ℕ × List ℕ} (λ n r. cmacRefusal n (length (r .1))) (λ p n ws r. tag (E p n ws) (length (r .1)) (r .0)) (λ r. r .1)
+pub tags-used : UnderUsed {R = List ℕ × List ℕ} (λ p n ws r. cmacRefusal n (length (r .1))) (λ p n ws r. tag (E p n ws) (length (r .1)) (r .0)) (λ r. r .1)
 tags-used = under-used _ _ _ (λ p n ws vs s r. tag-used p n ws vs s (length (r .1)) (r .0))
 
 -- what verifying says, by n and the block map

@@ -39,7 +39,7 @@ use Rattle.promise.proofs.Requests.{yes-by}
 -- ---- "With 0 named, all former guarantees read as before"
 
 module _ (store : Store) (k : WorkingKey) (zero-named : k .set ≡ 0) where
-  at-zero : {own answered : ℕ} (result : Parts → List ℕ) (before : List ℕ) {after : List ℕ} → (legal (k .n) ≡ false → own ≡ 1) → UsesSet store k own result answered before after
+  pub at-zero : {own answered : ℕ} (result : Parts → List ℕ) (before : List ℕ) {after : List ℕ} → (legal (k .n) ≡ false → own ≡ 1) → UsesSet store k own result answered before after
       → (answered ≡ own) × (after ≡ outcome answered (result article) before)
   at-zero result before one h = former store (k .set) (k .n) result before zero-named one (h .0) (h .1)
 
@@ -87,7 +87,7 @@ both-at-zero s t k {sealing} {opening} source before z one two h = (
 -- ---- 15 right after 1, and after 2
 
 module _ (store : Store) (k : WorkingKey) where
-  under : {own answered : ℕ} {further : Type 0} → answered ≡ underKey (k .n) (loaded store (k .set)) own → (answered ≡ own → further) → UnderKey store k answered further
+  pub under : {own answered : ℕ} {further : Type 0} → answered ≡ underKey (k .n) (loaded store (k .set)) own → (answered ≡ own → further) → UnderKey store k answered further
   under {own} e f = under-number (k .n) (loaded store (k .set)) own e (loaded-iff store (k .set)) f
 
   module _ (source : List ℕ) {answered : ℕ} {before after : List ℕ} where
@@ -182,7 +182,7 @@ answers-take s p i {answered} h = unless-map (said 15) (said 0) (take-number s p
 
 -- ---- what a call in a history is said to answer, the operation answers
 
-left-is : (r : ℕ) (x before : List ℕ) {answered : ℕ} {after : List ℕ} → answered ≡ r → after ≡ outcome answered x before → left r x before ≡ buffer answered after
+pub left-is : (r : ℕ) (x before : List ℕ) {answered : ℕ} {after : List ℕ} → answered ≡ r → after ≡ outcome answered x before → left r x before ≡ buffer answered after
 left-is r x before {answered} e f = ap (λ (n : ℕ). buffer n (outcome n x before)) (sym e) ∙ ap (buffer answered) (sym f)
 
 module _ (s : Store) (k : WorkingKey) (source before : List ℕ) {answered : ℕ} {after : List ℕ} where

@@ -1,10 +1,10 @@
 -- The change requests of document 02 that have landed, sentence by sentence, as Demands has the user's demands.
 -- Assumes nothing.
 use mathlib.Core.Path.{_≡_}
-use mathlib.Core.Bool.{true, false}
+use mathlib.Core.Bool.{Bool, true, false}
 use mathlib.Core.Logic.{_⊎_, _↔_}
 use mathlib.Core.List.{List, [], _∷_, _++_}
-use Prim.Native.Nat.{ℕ, _-_, _*_, _^_, _≤_, _<_}
+use Prim.Native.Nat.{ℕ, _+_, _-_, _*_, _%_, _^_, _≤_, _<_}
 use lib.Bits.{bitXor}
 use lib.Count.{leadingZeros}
 use lib.ListN.{length, getD, take, drop, replicate}
@@ -42,7 +42,8 @@ use Rattle.modes.specs.Cmac.{K1, K2, tag}
 use Rattle.modes.specs.Gf128.{Remainder}
 use Rattle.modes.specs.Cbc.{cbcSeal, cbcOpen}
 use Rattle.modes.specs.Ctr.{ctr}
-use Rattle.modes.specs.Refusals.{cbcRefusal, ctrRefusal, cmacRefusal}
+use Rattle.modes.specs.KeyWrap.{W⁻¹, wrapped, authentic, unwrapped}
+use Rattle.modes.specs.Refusals.{cbcRefusal, ctrRefusal, cmacRefusal, wrapRefusal, unwrapRefusal}
 use Rattle.cmac.specs.declared.Verified.{Verified}
 use Rattle.cmac.specs.Verification.{verification}
 use Rattle.tape_rules.specs.declared.Tape.{Tape}
@@ -479,3 +480,142 @@ abbrev pub ComesBackIn : Store → Store → WorkingKey → ℕ → ℕ → List
 ComesBackIn s t k sealing opening source number before after =
     (number ≡ firstOf (underKey (k .n) (loaded s (k .set)) sealing) (underKey (k .n) (loaded t (k .set)) opening))
     × (SameSet (k .set) s t → after ≡ outcome number source before)
+
+-- ---- Job 8: keys travel wrapped
+
+-- "Add the wrapping KW of NIST SP 800-38F over the n = 1 cipher": what wrapping a key and unwrapping a wrapped one give, with set 0 named, and for any set
+abbrev pub WrapsKey : WorkingKey → List ℕ → ℕ → List ℕ → List ℕ → Type 0
+WrapsKey k source number before after =
+    (number ≡ wrapRefusal (k .n) (length source) (length before)) × (after ≡ outcome number (wrapped (E article (k .n) (k .words)) source) before)
+
+abbrev pub UnwrapsKey : WorkingKey → List ℕ → ℕ → List ℕ → List ℕ → Type 0
+UnwrapsKey k source number before after =
+    (number ≡ unwrapRefusal (k .n) (length source) (length before) (authentic (U article (k .n) (k .words)) source))
+    × (after ≡ outcome number (unwrapped (U article (k .n) (k .words)) source) before)
+
+abbrev pub WrapsKeyIn : Store → WorkingKey → List ℕ → ℕ → List ℕ → List ℕ → Type 0
+WrapsKeyIn store k source number before after =
+    UsesSet store k (wrapRefusal (k .n) (length source) (length before)) (λ p. wrapped (E p (k .n) (k .words)) source) number before after
+
+abbrev pub UnwrapsKeyIn : Store → WorkingKey → List ℕ → ℕ → List ℕ → List ℕ → Type 0
+UnwrapsKeyIn store k source number before after =
+    UsesSet store k
+    (unwrapRefusal (k .n) (length source) (length before) (authentic (U (partsIn store (k .set)) (k .n) (k .words)) source))
+    (λ p. unwrapped (U p (k .n) (k .words)) source) number before after
+
+-- "for keys of 16 to 128 bytes in steps of 8, and its unwrapping from 24 to 136." "The destination is eight bytes longer or shorter than the source. It
+-- refuses a source length outside these with 17, after 1, 15 and 12; then the destination's with 5; then, unwrapping only, a wrong check value with 18, the
+-- destination untouched." The check value is the first eight bytes of what the standard's inverse of W makes of the source, and is right if they are A6
+abbrev pub WrapNumber : ℕ → ℕ → ℕ → ℕ → Type 0
+WrapNumber n source destination number =
+    Unless (Legal n) (number ≡ 1) (Unless (n ≡ 1) (number ≡ 12)
+    (Unless ((source % 8 ≡ 0) × (16 ≤ source) × (source ≤ 128)) (number ≡ 17) (Unless (destination ≡ source + 8) (number ≡ 5) (number ≡ 0))))
+
+abbrev pub RightValue : (List ℕ → List ℕ) → List ℕ → Type 0
+RightValue u source = take 8 (W⁻¹ u source) ≡ replicate 8 0xA6
+
+abbrev pub UnwrapNumber : (List ℕ → List ℕ) → ℕ → List ℕ → ℕ → ℕ → Type 0
+UnwrapNumber u n source destination number =
+    Unless (Legal n) (number ≡ 1) (Unless (n ≡ 1) (number ≡ 12)
+    (Unless ((length source % 8 ≡ 0) × (24 ≤ length source) × (length source ≤ 136)) (number ≡ 17)
+    (Unless (length source ≡ destination + 8) (number ≡ 5) (Unless (RightValue u source) (number ≡ 18) (number ≡ 0)))))
+
+abbrev pub WrapsTaken : Type 0
+WrapsTaken =
+    (n source destination number : ℕ) → WrapNumber n source destination number
+    → (number ≡ 0) ↔ ((n ≡ 1) × ((source % 8 ≡ 0) × (16 ≤ source) × (source ≤ 128)) × (destination ≡ source + 8))
+
+abbrev pub UnwrapsTaken : Type 0
+UnwrapsTaken =
+    (u : List ℕ → List ℕ) (n : ℕ) (source : List ℕ) (destination number : ℕ) → UnwrapNumber u n source destination number
+    → (number ≡ 0)
+    ↔ ((n ≡ 1) × ((length source % 8 ≡ 0) × (24 ≤ length source) × (length source ≤ 136)) × (length source ≡ destination + 8) × RightValue u source)
+
+abbrev pub AnswersWrapping : WorkingKey → List ℕ → ℕ → List ℕ → List ℕ → Type 0
+AnswersWrapping k source number before after = WrapNumber (k .n) (length source) (length before) number × Kept number before after
+
+abbrev pub AnswersUnwrapping : WorkingKey → List ℕ → ℕ → List ℕ → List ℕ → Type 0
+AnswersUnwrapping k source number before after =
+    UnwrapNumber (U article (k .n) (k .words)) (k .n) source (length before) number × Kept number before after
+
+abbrev pub AnswersWrappingIn : Store → WorkingKey → List ℕ → ℕ → List ℕ → List ℕ → Type 0
+AnswersWrappingIn store k source number before after =
+    UnderKey store k number (WrapNumber (k .n) (length source) (length before) number) × Kept number before after
+
+abbrev pub AnswersUnwrappingIn : Store → WorkingKey → List ℕ → ℕ → List ℕ → List ℕ → Type 0
+AnswersUnwrappingIn store k source number before after =
+    UnderKey store k number (UnwrapNumber (U (partsIn store (k .set)) (k .n) (k .words)) (k .n) source (length before) number) × Kept number before after
+
+-- "Under one master key, its set unchanged, unwrapping what was wrapped yields the key": of the definitions, over any map of blocks of 16 bytes that
+-- another undoes,
+abbrev pub MapsBlocks : (List ℕ → List ℕ) → Type 0
+MapsBlocks e = (b : List ℕ) → (length (e b) ≡ 16) × Bytes (e b)
+
+abbrev pub Undoes : (List ℕ → List ℕ) → (List ℕ → List ℕ) → Type 0
+Undoes u e = (b : List ℕ) → length b ≡ 16 → Bytes b → u (e b) ≡ b
+
+abbrev pub UnwrapsWrapped : Type 0
+UnwrapsWrapped =
+    (e u : List ℕ → List ℕ) → MapsBlocks e → Undoes u e → (key : List ℕ) → 8 ≤ length key → Bytes key
+    → RightValue u (wrapped e key) × (unwrapped u (wrapped e key) ≡ key)
+
+-- and of the operations, for any working key, expanded or made by hand, and any loaded set: a key wrapped with store s and unwrapped with store t, to a
+-- destination as long as the key. The second call is never refused
+abbrev pub KeyUnwraps : Type 0
+KeyUnwraps =
+    (s t : Store) (k : WorkingKey) (key before sent room after : List ℕ) (number : ℕ) → SameSet (k .set) s t → Words (k .words) → Bytes key
+    → WrapsKeyIn s k key 0 before sent → length room ≡ length key → UnwrapsKeyIn t k sent number room after → (number ≡ 0) × (after ≡ key)
+
+-- the master key expanded with store x
+abbrev pub KeyTravels : Type 0
+KeyTravels =
+    (x s t : Store) (n l i : ℕ) (secret : List ℕ) (e : Expanded) (key before sent room after : List ℕ) (number : ℕ) → SameSet i x s → SameSet i s t
+    → Words (e .key .words) → Bytes key → ExpandsFor x n l i secret e → e .number ≡ 0 → WrapsKeyIn s (e .key) key 0 before sent
+    → length room ≡ length key → UnwrapsKeyIn t (e .key) sent number room after
+    → (sent ≡ wrapped (E (partsIn s i) n (padded (expandedWords (partsIn s i .SM) n l secret))) key) × (number ≡ 0) × (after ≡ key)
+
+-- "and what unwrapping accepts is just what wrapping produces": of the definitions,
+pub record WrappedFrom (e : List ℕ → List ℕ) (c : List ℕ) : Type 0 where
+  pub key : List ℕ
+  pub long : 8 ≤ length key
+  pub small : Bytes key
+  pub made : c ≡ wrapped e key
+
+abbrev pub AcceptsWrapped : Type 0
+AcceptsWrapped =
+    (e u : List ℕ → List ℕ) → MapsBlocks e → MapsBlocks u → Undoes u e → Undoes e u → (c : List ℕ) → 16 ≤ length c → Bytes c
+    → RightValue u c ↔ WrappedFrom e c
+
+-- of the operations, where a source gets 0 exactly if some wrapping under the same key produces it,
+pub record SentBy (s : Store) (k : WorkingKey) (c : List ℕ) : Type 0 where
+  pub key : List ℕ
+  pub before : List ℕ
+  pub small : Bytes key
+  pub sent : WrapsKeyIn s k key 0 before c
+
+abbrev pub AcceptsSent : Type 0
+AcceptsSent =
+    (s t : Store) (k : WorkingKey) (c room after : List ℕ) (number : ℕ) → SameSet (k .set) s t → Words (k .words) → Bytes c
+    → length c ≡ length room + 8 → UnwrapsKeyIn t k c number room after → (number ≡ 0) ↔ SentBy s k c
+
+-- so what was unwrapped, wrapped again, is what it was; and two different sources are never unwrapped to one key, of the definitions and of the operations
+abbrev pub KeyWrapsAgain : Type 0
+KeyWrapsAgain =
+    (s t : Store) (k : WorkingKey) (c before key room after : List ℕ) (number : ℕ) → SameSet (k .set) s t → Words (k .words) → Bytes c
+    → UnwrapsKeyIn s k c 0 before key → length room ≡ length c → WrapsKeyIn t k key number room after → (number ≡ 0) × (after ≡ c)
+
+abbrev pub UnwrapsOnce : Type 0
+UnwrapsOnce =
+    (e u : List ℕ → List ℕ) → MapsBlocks u → Undoes e u → (c d : List ℕ) → 16 ≤ length c → 16 ≤ length d → Bytes c → Bytes d
+    → RightValue u c → RightValue u d → unwrapped u c ≡ unwrapped u d → c ≡ d
+
+abbrev pub OneSource : Type 0
+OneSource =
+    (s t : Store) (k : WorkingKey) (c d before room key : List ℕ) → SameSet (k .set) s t → Words (k .words) → Bytes c → Bytes d
+    → UnwrapsKeyIn s k c 0 before key → UnwrapsKeyIn t k d 0 room key → c ≡ d
+
+-- and of functions that make both calls, with two stores: Job 7's ComesBackIn, where right tells whether the check value is; and with the sets alike it is
+abbrev pub KeyComesBackIn : Store → Store → WorkingKey → ℕ → (Bool → ℕ) → Bool → List ℕ → ℕ → List ℕ → List ℕ → Type 0
+KeyComesBackIn s t k wrapping unwrapping right source number before after =
+    ComesBackIn s t k wrapping (unwrapping right) source number before after
+    × (SameSet (k .set) s t → number ≡ firstOf (underKey (k .n) (loaded s (k .set)) wrapping) (underKey (k .n) (loaded t (k .set)) (unwrapping true)))

@@ -1,3 +1,4 @@
+pub mod Words
 pub mod Stores
 pub mod Isolation
 pub mod Pages

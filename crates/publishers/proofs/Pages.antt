@@ -1,31 +1,39 @@
--- What one store sealed another opens, if both have the key's set alike; and one store kept throughout has a set as it was, unless it was loaded anew.
+-- What one store sealed another opens, if both have the key's set alike, and a key that one wrapped the other unwraps; one store kept throughout has a set as it was, unless it
+-- was loaded anew.
 -- Assumes nothing.
 use mathlib.Core.Path.{_≡_, refl, sym, ap, ap₂, _∙_}
 use mathlib.Core.Bool.{Bool, true, false, _&&_}
+use mathlib.Core.Logic.{inl}
 use mathlib.Core.List.{List, [], _∷_}
-use Prim.Native.Nat.{ℕ, _*_}
+use Prim.Native.Nat.{ℕ, _+_, _*_}
+use native.Mathlib.Omega.{arith}
 use borrow.Author.Tests.{eqb-false}
 use lib.Dec.{eqb}
 use lib.ListN.{length}
 use Rattle.forms.specs.Refusals.{outcome}
 use Rattle.forms.proofs.Booleans.{or-neither}
+use Rattle.forms.proofs.Refusals.{unless-held, unless-four}
 use Rattle.labyrinth.specs.declared.Expanded.{Expanded}
 use Rattle.labyrinth.specs.Cipher.{Parts, partsOf}
 use Rattle.labyrinth.specs.Keys.{E, U}
-use Rattle.labyrinth.specs.Refusals.{underKey, underLength, blockRefusal, expandRefusal, expansion}
-use Rattle.labyrinth.proofs.Undo.{U-E, E-U}
-use Rattle.labyrinth.proofs.Refusals.{block-iff, under-zero}
+use Rattle.labyrinth.specs.Refusals.{legal, underKey, underLength, blockRefusal, expandRefusal, expansion}
+use Rattle.labyrinth.proofs.Undo.{Sound, U-E, E-U}
+use Rattle.labyrinth.proofs.Refusals.{block-iff, under-zero, under-loaded}
 use Rattle.labyrinth.proofs.Expansion.{expansion-number}
 use Rattle.modes.specs.Cbc.{cbcOpen}
 use Rattle.modes.specs.Ctr.{ctr}
-use Rattle.modes.specs.Refusals.{cbcRefusal, ctrRefusal}
-use Rattle.modes.proofs.Again.{cbc-again, ctr-again}
+use Rattle.modes.specs.KeyWrap.{wrapped, authentic, unwrapped}
+use Rattle.modes.specs.Refusals.{cbcRefusal, ctrRefusal, Sized, wrapRefusal, unwrapRefusal}
+use Rattle.modes.proofs.Maps.{keeps-one, keeps-one-U}
+use Rattle.modes.proofs.KeyWrap.{length-wrapped, length-unwrapped}
+use Rattle.modes.proofs.Refusals.{wrap-number, wrap-taken, wrap-one, unwrap-number, unwrap-taken, unwrap-one}
+use Rattle.modes.proofs.Again.{cbc-again, ctr-again, wrap-authentic, wrap-again, unwrap-again}
 use Rattle.sets.specs.declared.Set.{Set}
 use Rattle.sets.specs.declared.Store.{Store}
 use Rattle.sets.specs.Sets.{setIn, substitutionIn, rowIn, partsIn, loaded, loadRefusal, load, take}
 use Rattle.sets.proofs.Sets.{setIn-zero, loaded-zero, loaded-sound, loaded-alike}
 use Rattle.publishers.specs.Calls.{Call, loads, takes, uses, Answer, number, key, buffer, verdict, left, named, used, answer, after, afterAll, renewed}
-use Rattle.publishers.specs.Pages.{SameSet, KeptUnlessRenewed, SetsUndo, BlocksComeBackIn, CbcOpensAgainIn, CtrOpensAgainIn, ExpandsIn}
+use Rattle.publishers.specs.Pages.{SameSet, KeptUnlessRenewed, SetsUndo, BlocksComeBackIn, CbcOpensAgainIn, CtrOpensAgainIn, KeysYieldIn, ExpandsIn}
 use Rattle.publishers.proofs.Stores.{load-is, refused-load, load-leaves, take-sets, same-sets}
 
 -- ---- one store kept throughout
@@ -94,11 +102,14 @@ expandedOf d (key e) = e
 expandedOf d (buffer r bs) = d
 expandedOf d (verdict v) = d
 
-answered : (n : ℕ) (is : Bool) (own : ℕ) (x before : List ℕ) {y : List ℕ} → left (underKey n is own) x before ≡ buffer 0 y → (own ≡ 0) × (x ≡ y)
+pub same-buffer : {r q : ℕ} {x y : List ℕ} → buffer r x ≡ buffer q y → (r ≡ q) × (x ≡ y)
 unfolding numberOf bytesOf
+same-buffer e = (ap numberOf e, ap bytesOf e)
+
+answered : (n : ℕ) (is : Bool) (own : ℕ) (x before : List ℕ) {y : List ℕ} → left (underKey n is own) x before ≡ buffer 0 y → (own ≡ 0) × (x ≡ y)
 answered n is own x before e =
-    let z : underKey n is own ≡ 0 = ap numberOf e in
-    (under-zero n is own z, sym (ap (λ (r : ℕ). outcome r x before) z) ∙ ap bytesOf e)
+    let z = same-buffer e in
+    (under-zero n is own (z .0), sym (ap (λ (r : ℕ). outcome r x before) (z .0)) ∙ z .1)
 
 pub blocks-come-back : BlocksComeBackIn
 unfolding answer used named
@@ -145,6 +156,57 @@ ctr-opens-again s t k h start at page p q before between room opened e f =
     sym (d .1)
     ∙ ap₂ (λ (m : Parts) (x : List ℕ). ctr (E m n (k .words)) (16 * n) start at x) (sym (same-parts h)) (sym (a .1))
     ∙ ctr-again (partsIn s (k .set)) n (k .words) start page (length before) at refl (a .0)
+
+-- ---- keys over two stores
+
+-- what gives an answer of 0
+gives : (n : ℕ) (is : Bool) (own : ℕ) (x before : List ℕ) {y : List ℕ} → (legal n ≡ false → own ≡ 1) → is ≡ true → own ≡ 0 → x ≡ y → left (underKey n is own) x before ≡ buffer 0 y
+gives n is own x before one l z e = ap₂ (λ (r : ℕ) (x : List ℕ). left r x before) (under-loaded n is own one l ∙ z) e
+
+wrap-done : (n s d : ℕ) → n ≡ 1 → Sized 16 128 s → d ≡ s + 8 → wrapRefusal n s d ≡ 0
+wrap-done n s d o z e = unless-four (wrap-number n s d refl) .1 (inl o, o, z, e)
+
+unwrap-done : (n s d : ℕ) (right : Bool) → n ≡ 1 → Sized 24 136 s → s ≡ d + 8 → right ≡ true → unwrapRefusal n s d right ≡ 0
+unwrap-done n s d right o z e r =
+    unless-held r (unless-held e (unless-held z (unless-held o (unless-held (inl o) (unwrap-number n s d right refl (λ h. h, λ h. h))))))
+
+pub keys-yield : KeysYieldIn
+unfolding answer used named
+keys-yield s t k h w given b = (
+  λ p q before between room e l.
+      let a = answered n (loaded s i) (wrapRefusal n (length given) (length before)) _ before e in
+      let taken = wrap-taken n (length given) (length before) refl (a .0) in
+      let long = ap length (sym (a .1)) ∙ length-wrapped (E m n ws) (keeps-one m n ws (taken .one)) given (omega (arith, taken .low-end)) in
+      let right = ap₂ (λ (m : Parts) (x : List ℕ). authentic (U m n ws) x) same (sym (a .1)) ∙ wrap-authentic m n ws given (length before) sound w b refl (a .0) in
+      let back = ap₂ (λ (m : Parts) (x : List ℕ). unwrapped (U m n ws) x) same (sym (a .1)) ∙ wrap-again m n ws given (length before) sound w b refl (a .0) in
+      gives n (loaded t i) (unwrapRefusal n (length between) (length room) (authentic (U (partsIn t i) n ws) between)) _ room (unwrap-one n (length between) (length room) _) (h .there)
+      (unwrap-done n (length between) (length room) _ (taken .one) (omega (arith, taken .whole), omega (arith, taken .low-end), omega (arith, taken .top-end)) (omega arith) right) back,
+  λ p q before between room e l.
+      let a = answered n (loaded s i) (unwrapRefusal n (length given) (length before) (authentic (U m n ws) given)) _ before e in
+      let taken = unwrap-taken n (length given) (length before) _ refl (a .0) .0 in
+      let long = ap length (sym (a .1)) ∙ length-unwrapped (U m n ws) (keeps-one-U m n ws (taken .one)) given (omega (arith, taken .low-end)) in
+      let back = ap₂ (λ (m : Parts) (x : List ℕ). wrapped (E m n ws) x) same (sym (a .1)) ∙ unwrap-again m n ws given (length before) sound w b refl (a .0) in
+      gives n (loaded t i) (wrapRefusal n (length between) (length room)) _ room (wrap-one n (length between) (length room)) (h .there)
+      (wrap-done n (length between) (length room) (taken .one) (omega (arith, taken .whole), omega (arith, taken .low-end), omega (arith, taken .top-end)) (omega (arith, taken .low-end))) back,
+)
+  where
+    n : ℕ
+    n = k .n
+
+    i : ℕ
+    i = k .set
+
+    ws : List ℕ
+    ws = k .words
+
+    m : Parts
+    m = partsIn s i
+
+    sound : Sound m
+    sound = loaded-sound s i (h .here)
+
+    same : partsIn t i ≡ m
+    same = sym (same-parts h)
 
 pub expands-in : ExpandsIn
 unfolding answer used named expandedOf expansion

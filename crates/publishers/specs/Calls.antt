@@ -15,7 +15,8 @@ use Rattle.labyrinth.specs.Refusals.{blockRefusal, expandRefusal, underKey, und
 use Rattle.modes.specs.Cbc.{cbcSeal, cbcOpen}
 use Rattle.modes.specs.Ctr.{ctr}
 use Rattle.modes.specs.Cmac.{tag}
-use Rattle.modes.specs.Refusals.{cbcRefusal, ctrRefusal, cmacRefusal}
+use Rattle.modes.specs.KeyWrap.{wrapped, authentic, unwrapped}
+use Rattle.modes.specs.Refusals.{cbcRefusal, ctrRefusal, cmacRefusal, wrapRefusal, unwrapRefusal}
 use Rattle.cmac.specs.declared.Verified.{Verified}
 use Rattle.cmac.specs.Verification.{verification}
 use Rattle.sets.specs.declared.Store.{Store}
@@ -32,6 +33,8 @@ pub data Use : Type 0 where
   counts : (k : WorkingKey) (start : List ℕ) (q : ℕ) (source before : List ℕ) → Use
   tags : (k : WorkingKey) (message before : List ℕ) → Use
   verifies : (k : WorkingKey) (message given : List ℕ) → Use
+  wraps : (k : WorkingKey) (source before : List ℕ) → Use
+  unwraps : (k : WorkingKey) (source before : List ℕ) → Use
 
 -- the set that it names: 'The working key's record now names its set'
 unfoldable pub named : Use → ℕ
@@ -43,6 +46,8 @@ named (opens k start source before) = k .set
 named (counts k start q source before) = k .set
 named (tags k message before) = k .set
 named (verifies k message given) = k .set
+named (wraps k source before) = k .set
+named (unwraps k source before) = k .set
 
 -- what a publisher is answered: a number, a number with a key, with what the destination holds then, or with a yes or no. The store, which a load
 -- or a take hands back too, is the kiosk's, and no answer
@@ -76,6 +81,11 @@ used is p (tags k message before) =
     left (underKey (k .n) is (cmacRefusal (k .n) (length before))) (tag (E p (k .n) (k .words)) (length before) message) before
 used is p (verifies k message given) =
     verdict (verification (E p (k .n) (k .words)) message given (underKey (k .n) is (cmacRefusal (k .n) (length given))))
+used is p (wraps k source before) =
+    left (underKey (k .n) is (wrapRefusal (k .n) (length source) (length before))) (wrapped (E p (k .n) (k .words)) source) before
+used is p (unwraps k source before) =
+    left (underKey (k .n) is (unwrapRefusal (k .n) (length source) (length before) (authentic (U p (k .n) (k .words)) source)))
+    (unwrapped (U p (k .n) (k .words)) source) before
 
 -- a call, with the publisher that makes it
 pub data Call : Type 0 where

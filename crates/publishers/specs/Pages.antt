@@ -1,6 +1,6 @@
 -- "with another, the opened page is still the sealed one, against the article's map with that set's tables, provided the stores handed in at
 -- expanding, sealing and opening have that set loaded with the same substitution and row, as one store kept throughout does unless the set was loaded
--- anew between." (document 02, Job 7)
+-- anew between." (document 02, Job 7) And a key that travels wrapped over two (Job 8).
 -- Assumes nothing.
 use mathlib.Core.Path.{_≡_}
 use mathlib.Core.Bool.{true, false}
@@ -13,7 +13,7 @@ use Rattle.labyrinth.specs.Keys.{E, U, expandedWords}
 use Rattle.labyrinth.specs.Refusals.{padded}
 use Rattle.sets.specs.declared.Store.{Store}
 use Rattle.sets.specs.Sets.{substitutionIn, rowIn, partsIn, loaded}
-use Rattle.publishers.specs.Calls.{Call, Use, expands, enciphers, deciphers, seals, opens, counts, uses, key, buffer, answer, afterAll, renewed}
+use Rattle.publishers.specs.Calls.{Call, Use, expands, enciphers, deciphers, seals, opens, counts, wraps, unwraps, uses, key, buffer, answer, afterAll, renewed}
 
 -- a list of bytes, a list of words of 64 bits
 abbrev pub Bytes : List ℕ → Type 0
@@ -59,6 +59,20 @@ CbcOpensAgainIn =
 abbrev pub CtrOpensAgainIn : Type 0
 CtrOpensAgainIn =
     (s t : Store) (k : WorkingKey) → SameSet (k .set) s t → (start : List ℕ) (q : ℕ) (page : List ℕ) → ComesBack s t (counts k start q) (counts k start q) page
+
+-- document 02, Job 8: "Under one master key, its set unchanged, unwrapping what was wrapped yields the key, and what unwrapping accepts is just what
+-- wrapping produces." A call made with store s and answered 0, and another with store t on what the first left, to a destination as long as what the
+-- first was given: the second is answered 0 too, and leaves that
+abbrev pub Yields : Store → Store → (List ℕ → List ℕ → Use) → (List ℕ → List ℕ → Use) → List ℕ → Type 0
+Yields s t first second given =
+    (p q : ℕ) (before between room : List ℕ) → answer s (uses p (first given before)) ≡ buffer 0 between → length room ≡ length given
+    → answer t (uses q (second between room)) ≡ buffer 0 given
+
+-- wrapped and unwrapped, so 18 is never answered of what was wrapped; and unwrapped and wrapped
+abbrev pub KeysYieldIn : Type 0
+KeysYieldIn =
+    (s t : Store) (k : WorkingKey) → SameSet (k .set) s t → Words (k .words) → (given : List ℕ) → Bytes given
+    → Yields s t (wraps k) (unwraps k) given × Yields s t (unwraps k) (wraps k) given
 
 -- "the stores handed in at expanding, sealing and opening": a key expanded with store x names its set, and its words are the article's with the tables
 -- that a store with the same set has, so all three are by one set of tables

@@ -1,7 +1,8 @@
 -- The operations do what the demands and the change requests say: what the contract of each tells its caller, for all arguments, is the statement; and each function
 -- meets its contract.
 -- Assumes nothing.
-use mathlib.Core.Path.{_≡_, refl, sym, ap, _∙_}
+use mathlib.Core.Path.{_≡_, refl, sym, ap, subst, _∙_}
+use mathlib.Core.Bool.{Bool, true}
 use mathlib.Core.List.{List}
 use Prim.Native.Nat.{ℕ, _*_}
 use contract.Lifetimes.{Lfts}
@@ -9,23 +10,26 @@ use borrow.Author.Tests.{eq-eqb, eqb-true}
 use lib.ListN.{length}
 use Rattle.field.specs.Merged.{lookup}
 use Rattle.rows.proofs.Rows.{published-mixed}
-use Rattle.modes.specs.Refusals.{cbcRefusal, ctrRefusal, cmacRefusal}
+use Rattle.modes.specs.KeyWrap.{wrapped, authentic}
+use Rattle.modes.specs.Refusals.{cbcRefusal, ctrRefusal, cmacRefusal, wrapRefusal, unwrapRefusal}
 use Rattle.cmac.specs.declared.Verified.{Verified}
 use Rattle.labyrinth.specs.declared.WorkingKey.{WorkingKey}
-use Rattle.labyrinth.specs.Cipher.{article}
+use Rattle.labyrinth.specs.Cipher.{Parts, article}
 use Rattle.labyrinth.specs.Keys.{E, U}
 use Rattle.labyrinth.specs.Refusals.{underKey}
-use Rattle.modes.proofs.Refusals.{cbc-one, ctr-one}
+use Rattle.modes.proofs.Refusals.{cbc-one, ctr-one, wrap-one, unwrap-one}
 use Rattle.sets.specs.declared.Store.{Store}
 use Rattle.sets.specs.Sets.{partsIn, loaded}
-use Rattle.publishers.specs.Calls.{loads, takes, expands as use-expands, enciphers, deciphers, seals, opens, counts, tags, verifies, key, buffer, verdict}
+use Rattle.sets.proofs.Sets.{parts-zero}
+use Rattle.publishers.specs.Calls.{loads, takes, expands as use-expands, enciphers, deciphers, seals, opens, counts, tags, verifies, wraps, unwraps, key, buffer, verdict}
 use Rattle.publishers.specs.Pages.{Bytes, Words}
 use Rattle.rows.specs.Inverse.{Row}
 use Rattle.promise.specs.Demands.{AnswersKey, AnswersBlock, AnswersCbc, AnswersCtr, AnswersStep, AnswersTape, Steps, WorksTape, Expands, Enciphers, Deciphers, SealsCbc, OpensCbc, RunsCtr, SealedBy, OpenedBy, CountedBy, SealedByBlocks, OpenedByBlocks, CountedByBlocks, Substitutes, SubstitutesBack, Fresh, UnusedWordsZero, OfUsedWords, StepsOfUsedWords, ComesBack}
-use Rattle.promise.specs.Requests.{ExpandsFor, EnciphersIn, DeciphersIn, SealsCbcIn, OpensCbcIn, RunsCtrIn, MakesTagIn, VerifiesTagIn, AnswersKeyFor, AnswersBlockIn, AnswersCbcIn, AnswersCtrIn, AnswersTagIn, AnswersVerifyingIn, YesExactlyIn, MakesFresh, Loads, Takes, AnswersLoad, AnswersTake, AnswersUse, AnswersCall, ComesBackIn, MakesTag, VerifiesTag, AnswersTag, AnswersVerifying, YesExactly, GetsYes, TellsItsEnd, Multiplies, MixesBy, AnswersMixing, MixesAsBefore, MakesTable, AnswersTable, MakesTheTableLent, LooksUp, FindsMixed, MultipliesRows, Inverts, AnswersInverse, ConvertsWord, Judges}
+use Rattle.promise.specs.Requests.{ExpandsFor, EnciphersIn, DeciphersIn, SealsCbcIn, OpensCbcIn, RunsCtrIn, MakesTagIn, VerifiesTagIn, AnswersKeyFor, AnswersBlockIn, AnswersCbcIn, AnswersCtrIn, AnswersTagIn, AnswersVerifyingIn, YesExactlyIn, MakesFresh, Loads, Takes, AnswersLoad, AnswersTake, AnswersUse, AnswersCall, ComesBackIn, MakesTag, VerifiesTag, AnswersTag, AnswersVerifying, YesExactly, GetsYes, TellsItsEnd, Multiplies, MixesBy, AnswersMixing, MixesAsBefore, MakesTable, AnswersTable, MakesTheTableLent, LooksUp, FindsMixed, MultipliesRows, Inverts, AnswersInverse, ConvertsWord, Judges, WrapsKey, UnwrapsKey, WrapsKeyIn, UnwrapsKeyIn, AnswersWrapping, AnswersUnwrapping, AnswersWrappingIn, AnswersUnwrappingIn, KeyComesBackIn}
 use Rattle.promise.proofs.Demands.{answers-key, answers-block, seals-answers, opens-answers, ctr-answers, answers-step, answers-tape, sealed-by-blocks, opened-by-blocks, counted-by-blocks, enciphers-used, deciphers-used, seals-used, opens-used, runs-used, steps-alike, cbc-calls-open, ctr-calls-open}
 use Rattle.promise.proofs.Requests.{answers-tag, answers-verifying, yes-exactly, tags-used, verifies-used, tells-its-end, answers-mixing, answers-table, one-inverse, looks-up, published-table}
 use Rattle.promise.proofs.Stores.{enciphers-at-zero, deciphers-at-zero, makes-at-zero, seals-at-zero, opens-at-zero, runs-at-zero, verifies-at-zero, expands-at-zero, both-at-zero, enciphers-answers-in, deciphers-answers-in, makes-answers-in, seals-answers-in, opens-answers-in, runs-answers-in, verifies-answers-in, yes-exactly-in, unused-words-zero-for, answers-key-for, sealed-by-in, opened-by-in, counted-by-in, answers-load, answers-take, enciphers-as, deciphers-as, makes-as, seals-as, opens-as, runs-as, verifies-as, expands-as, loads-as, takes-as}
+use Rattle.promise.proofs.Keys.{answers-wrapping, answers-unwrapping, answers-wrapping-in, answers-unwrapping-in, wraps-at-zero, unwraps-at-zero, key-back-at-zero, wraps-as, unwraps-as, wraps-used, unwraps-used}
 use Rattle.tape_rules.proofs.fresh as fresh
 use Rattle.tape.proofs.step as tape-step
 use Rattle.tape_run.proofs.run as tape-run
@@ -42,9 +46,13 @@ use Rattle.sets.proofs.fresh as fresh-store
 use Rattle.sets.proofs.load as load-set
 use Rattle.sets.proofs.take as take-set
 use Rattle.cmac.proofs.verify as verify
+use Rattle.key_wrap.proofs.wrap as wrap
+use Rattle.key_wrap.proofs.unwrap as unwrap
 use Rattle.round_trips.proofs.tag_made_and_verified as tag-made-and-verified
 use Rattle.round_trips.proofs.cbc_there_and_back as cbc-there-and-back
 use Rattle.round_trips.proofs.ctr_there_and_back as ctr-there-and-back
+use Rattle.wrapped_trips.proofs.key_wrapped_and_unwrapped as key-wrapped-and-unwrapped
+use Rattle.wrapped_trips.proofs.key_unwrapped_and_wrapped as key-unwrapped-and-wrapped
 use Rattle.conversions.proofs.word_converted as word-converted
 use Rattle.rows.proofs.mix as mix-word
 use Rattle.rows.proofs.make_table as make-table
@@ -474,6 +482,88 @@ module _ (κs : Lfts 1) where
       → AnswersCall (a .0) (loads (a .1 .0) (a .1 .1 .0) (a .1 .1 .1 .0 .now) (a .1 .1 .1 .1 .0)) z
   load-as a z e h = loads-as (a .0) (a .1 .0) (a .1 .1 .0) (a .1 .1 .1 .0 .now) (a .1 .1 .1 .1 .0) h
 
+-- ---- document 02, Job 8
+
+module _ (κs : Lfts 2) where
+  pub wraps-key-in : (a : _) (z : _) (e : _) → wrap.Reads.Learnt κs a z e → WrapsKeyIn (a .0) (a .1 .0) (a .1 .1 .0 .now) z (a .1 .1 .1 .0 .now) (e .1 .1 .1 .0 .now)
+  wraps-key-in a z e h = h
+
+  pub wraps-key : (a : _) (z : _) (e : _) → wrap.Reads.Learnt κs a z e → a .1 .0 .set ≡ 0 → WrapsKey (a .1 .0) (a .1 .1 .0 .now) z (a .1 .1 .1 .0 .now) (e .1 .1 .1 .0 .now)
+  wraps-key a z e h o = wraps-at-zero (a .0) (a .1 .0) o (a .1 .1 .0 .now) (a .1 .1 .1 .0 .now) h
+
+  pub wrap-answers-in : (a : _) (z : _) (e : _) → wrap.Reads.Learnt κs a z e → AnswersWrappingIn (a .0) (a .1 .0) (a .1 .1 .0 .now) z (a .1 .1 .1 .0 .now) (e .1 .1 .1 .0 .now)
+  wrap-answers-in a z e h = answers-wrapping-in (a .1 .0) (a .1 .1 .0 .now) (a .0) h
+
+  pub wrap-answers : (a : _) (z : _) (e : _) → wrap.Reads.Learnt κs a z e → a .1 .0 .set ≡ 0 → AnswersWrapping (a .1 .0) (a .1 .1 .0 .now) z (a .1 .1 .1 .0 .now) (e .1 .1 .1 .0 .now)
+  wrap-answers a z e h o = answers-wrapping (a .1 .0) (a .1 .1 .0 .now) (wraps-key a z e h o)
+
+  pub wrap-as : (a : _) (z : _) (e : _) → wrap.Reads.Learnt κs a z e → AnswersUse (a .0) (wraps (a .1 .0) (a .1 .1 .0 .now) (a .1 .1 .1 .0 .now)) (buffer z (e .1 .1 .1 .0 .now))
+  wrap-as a z e h = wraps-as (a .0) (a .1 .0) (a .1 .1 .0 .now) (a .1 .1 .1 .0 .now) h
+
+  pub wrap-used : OfUsedWords {G = Store × ℕ × (List ℕ × List ℕ)} (wrap.Reads.Learnt κs) (λ a. a .1 .0) (λ a. (a .0, a .1 .0 .set, (a .1 .1 .0 .now, a .1 .1 .1 .0 .now))) (λ e. e .1 .1 .1 .0 .now)
+  wrap-used a b y z e f h g s p = wraps-used (a .1 .0) (b .1 .0) _ _ _ _ _ _ s p h g
+
+  pub unwraps-key-in : (a : _) (z : _) (e : _) → unwrap.Reads.Learnt κs a z e → UnwrapsKeyIn (a .0) (a .1 .0) (a .1 .1 .0 .now) z (a .1 .1 .1 .0 .now) (e .1 .1 .1 .0 .now)
+  unwraps-key-in a z e h = h
+
+  pub unwraps-key : (a : _) (z : _) (e : _) → unwrap.Reads.Learnt κs a z e → a .1 .0 .set ≡ 0 → UnwrapsKey (a .1 .0) (a .1 .1 .0 .now) z (a .1 .1 .1 .0 .now) (e .1 .1 .1 .0 .now)
+  unwraps-key a z e h o = unwraps-at-zero (a .0) (a .1 .0) o (a .1 .1 .0 .now) (a .1 .1 .1 .0 .now) h
+
+  pub unwrap-answers-in : (a : _) (z : _) (e : _) → unwrap.Reads.Learnt κs a z e → AnswersUnwrappingIn (a .0) (a .1 .0) (a .1 .1 .0 .now) z (a .1 .1 .1 .0 .now) (e .1 .1 .1 .0 .now)
+  unwrap-answers-in a z e h = answers-unwrapping-in (a .1 .0) (a .1 .1 .0 .now) (a .0) h
+
+  pub unwrap-answers : (a : _) (z : _) (e : _) → unwrap.Reads.Learnt κs a z e → a .1 .0 .set ≡ 0 → AnswersUnwrapping (a .1 .0) (a .1 .1 .0 .now) z (a .1 .1 .1 .0 .now) (e .1 .1 .1 .0 .now)
+  unwrap-answers a z e h o = answers-unwrapping (a .1 .0) (a .1 .1 .0 .now) (unwraps-key a z e h o)
+
+  pub unwrap-as : (a : _) (z : _) (e : _) → unwrap.Reads.Learnt κs a z e → AnswersUse (a .0) (unwraps (a .1 .0) (a .1 .1 .0 .now) (a .1 .1 .1 .0 .now)) (buffer z (e .1 .1 .1 .0 .now))
+  unwrap-as a z e h = unwraps-as (a .0) (a .1 .0) (a .1 .1 .0 .now) (a .1 .1 .1 .0 .now) h
+
+  pub unwrap-used : OfUsedWords {G = Store × ℕ × (List ℕ × List ℕ)} (unwrap.Reads.Learnt κs) (λ a. a .1 .0) (λ a. (a .0, a .1 .0 .set, (a .1 .1 .0 .now, a .1 .1 .1 .0 .now))) (λ e. e .1 .1 .1 .0 .now)
+  unwrap-used a b y z e f h g s p = unwraps-used (a .1 .0) (b .1 .0) _ _ _ _ _ _ s p h g
+
+-- functions that make both calls, with any two stores
+module _ (κs : Lfts 3) where
+  pub key-comes-back-in : (a : _) (z : _) (e : _) → key-wrapped-and-unwrapped.Reads.Learnt κs a z e
+      → let k = a .1 .1 .0 in
+      let source = a .1 .1 .1 .0 .now in
+      let mid = length (a .1 .1 .1 .1 .0 .now) in
+      KeyComesBackIn (a .0) (a .1 .0) k (wrapRefusal (k .n) (length source) mid) (unwrapRefusal (k .n) mid (length (a .1 .1 .1 .1 .1 .0 .now)))
+      (authentic (U (partsIn (a .1 .0) (k .set)) (k .n) (k .words)) (wrapped (E (partsIn (a .0) (k .set)) (k .n) (k .words)) source)) source z (a .1 .1 .1 .1 .1 .0 .now) (e .1 .1 .1 .1 .1 .0 .now)
+  key-comes-back-in a z e h = ((h .0, h .1 .1 .1 .1), h .1 .1 .1 .0)
+
+  pub key-comes-back : (a : _) (z : _) (e : _) → key-wrapped-and-unwrapped.Reads.Learnt κs a z e → a .1 .1 .0 .set ≡ 0
+      → let k = a .1 .1 .0 in
+      let mid = length (a .1 .1 .1 .1 .0 .now) in
+      ComesBack (wrapRefusal (k .n) (length (a .1 .1 .1 .0 .now)) mid) (unwrapRefusal (k .n) mid (length (a .1 .1 .1 .1 .1 .0 .now)) true)
+      (a .1 .1 .1 .0 .now) z (a .1 .1 .1 .1 .1 .0 .now) (e .1 .1 .1 .1 .1 .0 .now)
+  key-comes-back a z e h o =
+      let k = a .1 .1 .0 in
+      let mid = length (a .1 .1 .1 .1 .0 .now) in
+      let room = length (a .1 .1 .1 .1 .1 .0 .now) in
+      key-back-at-zero (a .0) (a .1 .0) k (unwrapRefusal (k .n) mid room) _ (a .1 .1 .1 .0 .now) (a .1 .1 .1 .1 .1 .0 .now) o (wrap-one (k .n) (length (a .1 .1 .1 .0 .now)) mid) (unwrap-one (k .n) mid room true) (key-comes-back-in a z e h)
+
+  pub sent-comes-back-in : (a : _) (z : _) (e : _) → key-unwrapped-and-wrapped.Reads.Learnt κs a z e
+      → let k = a .1 .1 .0 in
+      let source = a .1 .1 .1 .0 .now in
+      let mid = length (a .1 .1 .1 .1 .0 .now) in
+      ComesBackIn (a .0) (a .1 .0) k (unwrapRefusal (k .n) (length source) mid (authentic (U (partsIn (a .0) (k .set)) (k .n) (k .words)) source)) (wrapRefusal (k .n) mid (length (a .1 .1 .1 .1 .1 .0 .now)))
+      source z (a .1 .1 .1 .1 .1 .0 .now) (e .1 .1 .1 .1 .1 .0 .now)
+  sent-comes-back-in a z e h = (h .0, h .1 .1 .1)
+
+  pub sent-comes-back : (a : _) (z : _) (e : _) → key-unwrapped-and-wrapped.Reads.Learnt κs a z e → a .1 .1 .0 .set ≡ 0
+      → let k = a .1 .1 .0 in
+      let source = a .1 .1 .1 .0 .now in
+      let mid = length (a .1 .1 .1 .1 .0 .now) in
+      ComesBack (unwrapRefusal (k .n) (length source) mid (authentic (U article (k .n) (k .words)) source)) (wrapRefusal (k .n) mid (length (a .1 .1 .1 .1 .1 .0 .now)))
+      source z (a .1 .1 .1 .1 .1 .0 .now) (e .1 .1 .1 .1 .1 .0 .now)
+  sent-comes-back a z e h o =
+      let k = a .1 .1 .0 in
+      let source = a .1 .1 .1 .0 .now in
+      let mid = length (a .1 .1 .1 .1 .0 .now) in
+      let room = a .1 .1 .1 .1 .1 .0 .now in
+      subst (λ (p : Parts). ComesBack (unwrapRefusal (k .n) (length source) mid (authentic (U p (k .n) (k .words)) source)) (wrapRefusal (k .n) mid (length room)) source z room (e .1 .1 .1 .1 .1 .0 .now)) (parts-zero (a .0) (k .set) o)
+      (both-at-zero (a .0) (a .1 .0) k source room o (unwrap-one (k .n) (length source) mid _) (wrap-one (k .n) mid (length room)) (sent-comes-back-in a z e h))
+
 -- ---- every function named here meets its contract
 
 module _ {M : Type 1} where
@@ -566,3 +656,15 @@ module _ {M : Type 1} where
 
   pub take-set-met : take-set.Statement.statement M
   take-set-met = take-set.Met.met
+
+  pub wrap-met : wrap.Statement.statement M
+  wrap-met = wrap.Met.met
+
+  pub unwrap-met : unwrap.Statement.statement M
+  unwrap-met = unwrap.Met.met
+
+  pub key-wrapped-and-unwrapped-met : key-wrapped-and-unwrapped.Statement.statement M
+  key-wrapped-and-unwrapped-met = key-wrapped-and-unwrapped.Met.met
+
+  pub key-unwrapped-and-wrapped-met : key-unwrapped-and-wrapped.Statement.statement M
+  key-unwrapped-and-wrapped-met = key-unwrapped-and-wrapped.Met.met

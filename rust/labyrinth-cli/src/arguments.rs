@@ -4,12 +4,14 @@ use std::ffi::{OsStr, OsString};
 
 pub const USAGE: &str = "labyrinth seal|open --mode cbc|ctr -n N -l L --key-file F --start HEX [--offset Q] [--set FILE] IN OUT
        labyrinth tag -l L --key-file F [--length T] [--set FILE] IN
-       labyrinth verify -l L --key-file F --tag HEX [--set FILE] IN";
+       labyrinth verify -l L --key-file F --tag HEX [--set FILE] IN
+       labyrinth wrap|unwrap -l L --key-file F [--set FILE] IN OUT";
 
 pub enum Request {
     Help,
     Work(Arguments),
     Tag(TagArguments),
+    Wrap(WrapArguments),
 }
 
 pub struct Arguments {
@@ -33,6 +35,15 @@ pub struct TagArguments {
     pub input: OsString,
 }
 
+pub struct WrapArguments {
+    pub wrap: bool,
+    pub l: usize,
+    pub key_file: OsString,
+    pub set_file: Option<OsString>,
+    pub input: OsString,
+    pub output: OsString,
+}
+
 pub enum Tagging {
     /// Makes a tag of so many bytes.
     Make(usize),
@@ -40,7 +51,7 @@ pub enum Tagging {
     Verify(Vec<u8>),
 }
 
-const WORDS: [&str; 4] = ["seal", "open", "tag", "verify"];
+const WORDS: [&str; 6] = ["seal", "open", "tag", "verify", "wrap", "unwrap"];
 /// Each option with the words that take it.
 const OPTIONS: [(&str, &[&str]); 9] = [
     ("--mode", &["seal", "open"]),
@@ -80,11 +91,15 @@ pub fn read(words: impl Iterator<Item = OsString>) -> Result<Request, String> {
     }
     let names = operands.split_off(operands.len().min(1));
     let first = operands.pop().unwrap_or_default();
-    let unknown = format!("'seal', 'open', 'tag' or 'verify' comes first, not '{}'", first.to_string_lossy());
+    let unknown = format!("'seal', 'open', 'tag', 'verify', 'wrap' or 'unwrap' comes first, not '{}'", first.to_string_lossy());
     let word = *WORDS.iter().find(|word| first == **word).ok_or(unknown)?;
     for ((option, takers), value) in OPTIONS.iter().zip(&values) {
         if value.is_some() && !takers.contains(&word) {
-            let why = if *option == "-n" { ": a tag is always at n = 1" } else { "" };
+            let why = match (*option, word) {
+                ("-n", "tag" | "verify") => ": a tag is always at n = 1",
+                ("-n", _) => ": a wrapped key is always at n = 1",
+                _ => "",
+            };
             return Err(format!("'{word}' takes no {option}{why}"));
         }
     }
@@ -101,6 +116,13 @@ pub fn read(words: impl Iterator<Item = OsString>) -> Result<Request, String> {
             };
             check_names(&key_file, &set_file, &[&input])?;
             Ok(Request::Tag(TagArguments { task, l, key_file, set_file, input }))
+        }
+        "wrap" | "unwrap" => {
+            let [input, output] = files(names, "IN and OUT are")?;
+            let l = size_of(l, "-l")?;
+            let key_file = key_file.ok_or("--key-file is missing")?;
+            check_names(&key_file, &set_file, &[&input, &output])?;
+            Ok(Request::Wrap(WrapArguments { wrap: word == "wrap", l, key_file, set_file, input, output }))
         }
         _ => {
             let [input, output] = files(names, "IN and OUT are")?;

@@ -1,12 +1,12 @@
-//! The command labyrinth: seals and opens pages, and makes and verifies their tags. src/help.txt says how it is used and what its exit
-//! statuses are.
+//! The command labyrinth: seals and opens pages, makes and verifies their tags, and wraps and unwraps keys. src/help.txt says how it is used and
+//! what its exit statuses are.
 mod arguments;
 mod output;
 mod pieces;
 mod progress;
 
-use arguments::{Arguments, Request, TagArguments, Tagging};
-use labyrinth::{Error, Key, Store};
+use arguments::{Arguments, Request, TagArguments, Tagging, WrapArguments};
+use labyrinth::{Error, Key, Store, WorkingKey};
 use output::Output;
 use pieces::{Failure, Mode, Task, PIECE};
 use progress::Progress;
@@ -17,7 +17,8 @@ use std::os::unix::fs::MetadataExt;
 use std::os::unix::io::AsFd;
 use std::process::exit;
 
-/// A message and the exit status: 1 refused with a number, 2 usage, 3 a file could not be read or written, 4 the tag is not IN's.
+/// A message and the exit status: 1 refused with a number, 2 usage, 3 a file could not be read or written, 4 the tag is not IN's, or IN is no
+/// wrapped key of this master key's.
 struct Stop(i32, String);
 
 const LONGEST_KEY_FILE: u64 = 65536;
@@ -42,6 +43,7 @@ fn run() -> Result<(), Stop> {
         Ok(Request::Help) => print(include_str!("help.txt")),
         Ok(Request::Work(arguments)) => work(&arguments),
         Ok(Request::Tag(arguments)) => tag(&arguments),
+        Ok(Request::Wrap(arguments)) => wrap(&arguments),
         Err(message) => Err(Stop(2, format!("{message}\nusage: {}\nsee labyrinth --help", arguments::USAGE))),
     }
 }
@@ -61,17 +63,8 @@ fn work(a: &Arguments) -> Result<(), Stop> {
     task.piece(&a.start, &[], &mut []).map_err(refuse)?;
 
     let (input, held) = open_input(&a.input)?;
-    if let Some(out) = there_now(&a.output)? {
-        if same(&held, &out) {
-            return Err(Stop(2, "IN and OUT are one file: nothing shows whether the key is right, so the only copy isn't replaced".into()));
-        }
-        if same(&key_file, &out) {
-            return Err(Stop(2, "OUT is the key file".into()));
-        }
-        if set_file.is_some_and(|file| same(&file, &out)) {
-            return Err(Stop(2, "OUT is the set file".into()));
-        }
-    }
+    let one_file = "IN and OUT are one file: nothing shows whether the key is right, so the only copy isn't replaced";
+    check_output(&a.output, one_file, &held, &key_file, set_file.as_ref())?;
     let length = if held.is_file() && a.input != *"-" { Some(held.len()) } else { None };
     if let (Mode::Cbc, Some(length)) = (a.mode, length) {
         if length % (16 * a.n as u64) != 0 {
@@ -79,8 +72,8 @@ fn work(a: &Arguments) -> Result<(), Stop> {
         }
     }
 
-    let unwritten = |e: io::Error| Stop(3, format!("{}: {e}", named(&a.output, "standard output")));
-    let mut output = if a.output == *"-" { Output::standard() } else { Output::beside(a.output.as_ref()) }.map_err(unwritten)?;
+    let unwritten = |e| unwritten(&a.output, e);
+    let mut output = open_output(&a.output).map_err(unwritten)?;
     let mut progress = Progress::new(length);
     let done = pieces::run(&task, &a.start, PIECE, input, &mut output, |bytes| progress.show(bytes));
     progress.clear();
@@ -120,7 +113,7 @@ fn tag(a: &TagArguments) -> Result<(), Stop> {
     input.read_to_end(&mut page).map_err(|e| unread(&a.input, e))?;
     let yes = run(&page).map_err(stop)?;
     match a.task {
-        Tagging::Make(_) => print(&(made.iter().map(|byte| format!("{byte:02x}")).collect::<String>() + "\n")),
+        Tagging::Make(_) => print(&digits(&made)),
         Tagging::Verify(_) if yes => Ok(()),
         Tagging::Verify(_) => {
             let name = named(&a.input, "standard input");
@@ -129,8 +122,41 @@ fn tag(a: &TagArguments) -> Result<(), Stop> {
     }
 }
 
+/// Wraps the key that IN holds, or unwraps it, to OUT. Both are key files, of hexadecimal digits.
+fn wrap(a: &WrapArguments) -> Result<(), Stop> {
+    let (bytes, key_file) = read_key(&a.key_file)?;
+    let Tables { store, set, file: set_file } = read_set(a.set_file.as_deref())?;
+    // 2 and 3, before IN is opened
+    let stop = |error, count| refused(error, 1, a.l, bytes.len(), || format!("IN holds {count} bytes"));
+    let master = Key { n: 1, l: a.l, bytes: &bytes }.expand(&store, set).map_err(|error| stop(error, 0))?;
+    let (given, held) = read_key(&a.input)?;
+    check_output(&a.output, "IN and OUT are one file: the only copy of a key isn't replaced", &held, &key_file, set_file.as_ref())?;
+
+    let (run, room): (fn(&_, &_, &_, &mut _) -> _, _) =
+        if a.wrap { (WorkingKey::wrap, given.len() + 8) } else { (WorkingKey::unwrap, given.len().saturating_sub(8)) };
+    let mut made = vec![0; room];
+    run(&master, &store, &given, &mut made).map_err(|error| match error {
+        Error::CheckValue => {
+            let name = named(&a.input, "standard input");
+            Stop(4, format!("{name}: no: {error}: altered, or wrapped under another key or with other tables"))
+        }
+        _ => stop(error, given.len()),
+    })?;
+    let written = open_output(&a.output).and_then(|mut output| output.write_all(digits(&made).as_bytes()).and_then(|()| output.finish()));
+    written.map_err(|e| unwritten(&a.output, e))
+}
+
+/// Hexadecimal digits and a line end.
+fn digits(bytes: &[u8]) -> String {
+    bytes.iter().map(|byte| format!("{byte:02x}")).collect::<String>() + "\n"
+}
+
 fn unread(name: &OsStr, error: io::Error) -> Stop {
     Stop(3, format!("{}: {error}", named(name, "standard input")))
+}
+
+fn unwritten(name: &OsStr, error: io::Error) -> Stop {
+    Stop(3, format!("{}: {error}", named(name, "standard output")))
 }
 
 fn named(name: &OsStr, stream: &str) -> String {
@@ -146,6 +172,24 @@ fn open_input(name: &OsStr) -> Result<(File, Metadata), Stop> {
     opened.and_then(|file| file.metadata().map(|held| (file, held))).map_err(|e| unread(name, e))
 }
 
+fn open_output(name: &OsStr) -> io::Result<Output> {
+    if name == "-" {
+        Output::standard()
+    } else {
+        Output::beside(name.as_ref())
+    }
+}
+
+/// OUT may not be IN, which `one_file` says, the key file or the set file.
+fn check_output(name: &OsStr, one_file: &str, input: &Metadata, key_file: &Metadata, set_file: Option<&Metadata>) -> Result<(), Stop> {
+    let Some(out) = there_now(name)? else { return Ok(()) };
+    let read = [(Some(input), one_file), (Some(key_file), "OUT is the key file"), (set_file, "OUT is the set file")];
+    match read.into_iter().find(|(file, _)| file.is_some_and(|file| same(file, &out))) {
+        Some((_, what)) => Err(Stop(2, what.to_string())),
+        None => Ok(()),
+    }
+}
+
 /// What OUT is now, if it is there.
 fn there_now(name: &OsStr) -> Result<Option<Metadata>, Stop> {
     let found =
@@ -153,7 +197,7 @@ fn there_now(name: &OsStr) -> Result<Option<Metadata>, Stop> {
     match found {
         Ok(held) => Ok(Some(held)),
         Err(e) if e.kind() == io::ErrorKind::NotFound => Ok(None),
-        Err(e) => Err(Stop(3, format!("{}: {e}", named(name, "standard output")))),
+        Err(e) => Err(unwritten(name, e)),
     }
 }
 

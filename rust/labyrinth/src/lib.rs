@@ -1,7 +1,7 @@
-//! The block cipher Labyrinth, and over it CBC and CTR of NIST SP 800-38A and the tag of SP 800-38B (CMAC): a safe wrapper of the library in
-//! Rattle that is proved against the article and these standards. Each operation of a [`Key`] or a [`TagKey`] expands it, does one thing and
-//! keeps nothing. A [`WorkingKey`] is expanded once and used for many pages; it names a set of tables in a [`Store`], the published set or one
-//! of an archive's own. Two functions mix a word, two make a row, and one judges a row.
+//! The block cipher Labyrinth, and over it CBC and CTR of NIST SP 800-38A, the tag of SP 800-38B (CMAC) and the wrapping of keys of SP 800-38F
+//! (KW): a safe wrapper of the library in Rattle that is proved against the article and these standards. Each operation of a [`Key`] or a
+//! [`TagKey`] expands it, does one thing and keeps nothing. A [`WorkingKey`] is expanded once and used for many pages, or to wrap keys; it names
+//! a set of tables in a [`Store`], the published set or one of an archive's own. Two functions mix a word, two make a row, and one judges a row.
 //!
 //! What is proved is the library behind the C interface; this wrapper is not. It hands over what it is given, unchecked, and returns what
 //! the library answered. Safe Rust keeps to what the proofs ask of a caller: slices are valid, and a destination overlaps nothing.
@@ -230,6 +230,26 @@ extern "C" {
         tag_len: usize,
         yes: *mut u8,
     ) -> u8;
+    fn labyrinth_key_wrap(
+        store: *const u8,
+        store_len: usize,
+        working: *const u8,
+        working_len: usize,
+        src: *const u8,
+        src_len: usize,
+        dst: *mut u8,
+        dst_len: usize,
+    ) -> u8;
+    fn labyrinth_key_unwrap(
+        store: *const u8,
+        store_len: usize,
+        working: *const u8,
+        working_len: usize,
+        src: *const u8,
+        src_len: usize,
+        dst: *mut u8,
+        dst_len: usize,
+    ) -> u8;
 }
 
 /// Why the library refused: the number of documents 01 and 02. The destination, the tag to be made or the store then holds what it held
@@ -246,13 +266,14 @@ pub enum Error {
     KeyLength,
     /// 4: the source isn't 16n bytes (a block), or no multiple of that (CBC).
     SourceLength,
-    /// 5: the destination isn't 16n bytes (a block), or isn't as long as the source (CBC, CTR).
+    /// 5: the destination isn't 16n bytes (a block), isn't as long as the source (CBC, CTR), or isn't eight bytes longer (wrapping) or shorter
+    /// (unwrapping).
     DestinationLength,
     /// 6: the start block isn't 16n bytes.
     StartLength,
     /// 11: the tag isn't 8 to 16 bytes.
     TagLength,
-    /// 12: the working key's n isn't 1, for a tag.
+    /// 12: the working key's n isn't 1, for a tag or a wrapped key.
     TagBlockSize,
     /// 13: the row's coefficients XOR to zero.
     RowSum,
@@ -262,6 +283,10 @@ pub enum Error {
     NotInStore,
     /// 16: someone holds the set, or it is set 0.
     SetHeld,
+    /// 17: a key to be wrapped isn't 16 to 128 bytes, or one to be unwrapped isn't 24 to 136, in steps of 8.
+    WrapLength,
+    /// 18: the check value of a key to be unwrapped is wrong: it is altered, or under another master key or other tables.
+    CheckValue,
     /// Another number, which this crate doesn't know.
     Unknown(u8),
 }
@@ -282,6 +307,8 @@ impl Error {
             Error::Substitution => 14,
             Error::NotInStore => 15,
             Error::SetHeld => 16,
+            Error::WrapLength => 17,
+            Error::CheckValue => 18,
             Error::Unknown(number) => number,
         }
     }
@@ -294,14 +321,18 @@ impl fmt::Display for Error {
             Error::KeySize => "l isn't 2, 3 or 4",
             Error::KeyLength => "the key isn't 8nl bytes",
             Error::SourceLength => "the source isn't 16n bytes, or for CBC no multiple of 16n bytes",
-            Error::DestinationLength => "the destination isn't 16n bytes, or for CBC and CTR isn't as long as the source",
+            Error::DestinationLength => {
+                "the destination isn't 16n bytes, or for CBC and CTR isn't as long as the source, or for a wrapped key isn't eight bytes longer or shorter"
+            }
             Error::StartLength => "the start block isn't 16n bytes",
             Error::TagLength => "the tag isn't 8 to 16 bytes",
-            Error::TagBlockSize => "n isn't 1, as it is for a tag",
+            Error::TagBlockSize => "n isn't 1, as it is for a tag and a wrapped key",
             Error::RowSum => "the row's coefficients XOR to zero",
             Error::Substitution => "the substitution isn't 256 different bytes",
             Error::NotInStore => "the publisher or the set is outside the store, or the set isn't loaded",
             Error::SetHeld => "someone holds the set",
+            Error::WrapLength => "a key to be wrapped isn't 16 to 128 bytes, or one to be unwrapped isn't 24 to 136, in steps of 8",
+            Error::CheckValue => "the wrapped key's check value is wrong",
             Error::Unknown(_) => "a number that the crate labyrinth doesn't know",
         };
         write!(f, "refused with {}: {words}", self.number())
@@ -325,6 +356,8 @@ fn answer(number: u8) -> Result<(), Error> {
         14 => Err(Error::Substitution),
         15 => Err(Error::NotInStore),
         16 => Err(Error::SetHeld),
+        17 => Err(Error::WrapLength),
+        18 => Err(Error::CheckValue),
         other => Err(Error::Unknown(other)),
     }
 }
@@ -564,7 +597,7 @@ impl fmt::Debug for WorkingKey {
     }
 }
 
-// What the functions for a block or a tag to be made, and those for CBC, have in common.
+// What the functions for a block, a tag to be made or a wrapped key, and those for CBC, have in common.
 type KeyBlock = unsafe extern "C" fn(*const u8, usize, *const u8, usize, *const u8, usize, *mut u8, usize) -> u8;
 type KeyCbc = unsafe extern "C" fn(*const u8, usize, *const u8, usize, *const u8, usize, *const u8, usize, *mut u8, usize) -> u8;
 
@@ -652,6 +685,32 @@ impl WorkingKey {
             labyrinth_key_cmac_verify(sets.as_ptr(), sets.len(), key.as_ptr(), key.len(), text.0, text.1, given.0, given.1, &mut yes)
         })?;
         Ok(yes == 1)
+    }
+
+    /// Wraps a key of 16 to 128 bytes, in steps of 8, by KW, to eight bytes more. `self` is a master key's, with n = 1, and should be used for
+    /// nothing else. Refused with 1, 15, 12, 17 or 5, the first that applies in this order.
+    ///
+    /// ```
+    /// use labyrinth::{Error, Key, Store};
+    ///
+    /// let store = Store::fresh();
+    /// let master = Key { n: 1, l: 4, bytes: &[7; 32] }.expand(&store, 0)?;
+    /// let (mut wrapped, mut key) = ([0; 24], [0; 16]);
+    /// master.wrap(&store, &[9; 16], &mut wrapped)?;
+    /// master.unwrap(&store, &wrapped, &mut key)?;
+    /// assert_eq!(key, [9; 16]);
+    /// wrapped[5] ^= 1;
+    /// assert_eq!(master.unwrap(&store, &wrapped, &mut key), Err(Error::CheckValue));
+    /// # Ok::<(), Error>(())
+    /// ```
+    pub fn wrap(&self, store: &Store, key: &[u8], dst: &mut [u8]) -> Result<(), Error> {
+        self.block(labyrinth_key_wrap, store, key, dst)
+    }
+
+    /// Unwraps what [`WorkingKey::wrap`] wrapped, 24 to 136 bytes, in steps of 8, to eight bytes less. Refused with 1, 15, 12, 17, 5 or 18, the
+    /// first that applies in this order. What it takes is just what wrapping makes of some key; with 18 the destination holds what it held.
+    pub fn unwrap(&self, store: &Store, wrapped: &[u8], dst: &mut [u8]) -> Result<(), Error> {
+        self.block(labyrinth_key_unwrap, store, wrapped, dst)
     }
 
     /// A working key from its bytes, whatever they are: n, the set and 32 words, 8 bytes each, least first. Of an illegal n it is refused with 1,
@@ -854,7 +913,7 @@ mod tests {
             let error = answer(number).unwrap_err();
             assert_eq!(error.number(), number);
             assert!(error.to_string().starts_with(&format!("refused with {number}: ")));
-            assert_eq!(matches!(error, Error::Unknown(_)), (7..=10).contains(&number) || number > 16);
+            assert_eq!(matches!(error, Error::Unknown(_)), (7..=10).contains(&number) || number > 18);
         }
     }
 
@@ -1172,6 +1231,42 @@ mod tests {
         }
     }
 
+    // Every length, by set 0 and tables of an archive's own; altered by any bit, or with another key or other tables, it isn't taken.
+    #[test]
+    fn wrapped_keys() {
+        let bytes: Vec<u8> = (0..300).map(|i| (i * i % 241) as u8).collect();
+        let wrapping = store_with_own();
+        let mut unwrapping = store_with_own();
+        unwrapping.load(0, 2, &own().0, &PUBLISHED).unwrap();
+        let mut anew = store_with_own();
+        anew.load(0, 1, &own().0, &PUBLISHED).unwrap();
+        for (l, set) in [2, 3, 4].into_iter().flat_map(|l| [(l, 0), (l, 1)]) {
+            let master = Key { n: 1, l, bytes: &bytes[..8 * l] }.expand(&wrapping, set).unwrap();
+            let other = Key { n: 1, l, bytes: &bytes[1..1 + 8 * l] }.expand(&wrapping, set).unwrap();
+            for count in (16..=128).step_by(8) {
+                let key = &bytes[100..100 + count];
+                let (mut wrapped, mut unwrapped) = (vec![0; count + 8], vec![0; count]);
+                master.wrap(&wrapping, key, &mut wrapped).unwrap();
+                master.unwrap(&unwrapping, &wrapped, &mut unwrapped).unwrap();
+                assert_eq!(unwrapped, key);
+                let mut no = |master: &WorkingKey, store: &Store, wrapped: &[u8]| {
+                    unwrapped.fill(MARK);
+                    assert_eq!(master.unwrap(store, wrapped, &mut unwrapped), Err(Error::CheckValue));
+                    assert!(unwrapped.iter().all(|&b| b == MARK), "a key that was not taken is written");
+                };
+                no(&other, &wrapping, &wrapped);
+                if set == 1 {
+                    no(&master, &anew, &wrapped);
+                }
+                for bit in 0..8 * wrapped.len() {
+                    wrapped[bit / 8] ^= 1 << (bit % 8);
+                    no(&master, &wrapping, &wrapped);
+                    wrapped[bit / 8] ^= 1 << (bit % 8);
+                }
+            }
+        }
+    }
+
     // Each fault is mended in the order of the checks; the destination stays after each.
     #[test]
     fn numbers_of_working_keys_in_order() {
@@ -1194,6 +1289,8 @@ mod tests {
         let counts: Use = |k, s, start, from, to| k.ctr(s, Start(start), 1, from, to);
         let tags: [Use; 2] =
             [|k, s, _, from, to| k.cmac(s, from, to), |k, s, tag, from, to| k.cmac_verify(s, from, tag).map(|yes| to.fill(u8::from(yes)))];
+        let wraps: Use = |k, s, _, from, to| k.wrap(s, from, to);
+        let unwraps: Use = |k, s, _, from, to| k.unwrap(s, from, to);
         let number_of = |run: Use, key: &WorkingKey, [start, src, dst]: [usize; 3]| {
             let mut held = vec![MARK; dst];
             let number = run(key, &store, &vec![2; start], &vec![3; src], &mut held).map_or_else(Error::number, |()| 0);
@@ -1204,7 +1301,7 @@ mod tests {
             let block = 16 * n;
             let n = n as u64;
             for unloaded in [2, 3, 4, 256, 1 << 32, u64::MAX] {
-                for run in blocks.into_iter().chain(chains).chain([counts]).chain(tags) {
+                for run in blocks.into_iter().chain(chains).chain([counts]).chain(tags).chain([wraps, unwraps]) {
                     assert_eq!(number_of(run, &with(3, unloaded), [1, 1, 1]), 1);
                     assert_eq!(number_of(run, &with(n, unloaded), [1, 1, 1]), 15);
                 }
@@ -1228,6 +1325,18 @@ mod tests {
                 for run in tags {
                     assert_eq!(number_of(run, &key, [7, 1, 7]), if n == 1 { 11 } else { 12 });
                     assert_eq!(number_of(run, &key, [8, 1, 8]), if n == 1 { 0 } else { 12 });
+                }
+                for src in 0..=144_usize {
+                    for dst in [0, 1, 7, 8, 9, 15, 16, 17].map(|more| (src + more).saturating_sub(8)) {
+                        let wanted = |least: usize, right: usize, done: u8| match n {
+                            1 if src % 8 != 0 || !(least..=least + 112).contains(&src) => 17,
+                            1 if dst != right => 5,
+                            1 => done,
+                            _ => 12,
+                        };
+                        assert_eq!(number_of(wraps, &key, [0, src, dst]), wanted(16, src + 8, 0), "{src} to {dst}");
+                        assert_eq!(number_of(unwraps, &key, [0, src, dst]), wanted(24, src.saturating_sub(8), 18), "{src} to {dst}");
+                    }
                 }
                 // expansion: 1, 2, 15, 3
                 let of = |n, l, bytes, set| Key { n, l, bytes }.expand(&store, set).map_or_else(Error::number, |_| 0);

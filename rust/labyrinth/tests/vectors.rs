@@ -1,6 +1,6 @@
-//! The archivists' vectors (tests/archivists/vectors.json of the repository), all blocks, runs and tags, through the crate; and the page with
-//! tables of an archive's own that the paper for the successor has, which the archivists' program sealed.
-use labyrinth::{Key, Start, Store, TagKey};
+//! The archivists' vectors (tests/archivists/vectors.json of the repository), all blocks, runs, tags and wrapped keys, through the crate; and the
+//! page with tables of an archive's own that the paper for the successor has, which the archivists' program sealed.
+use labyrinth::{Error, Key, Start, Store, TagKey};
 use std::collections::HashMap;
 
 struct Vector(HashMap<String, String>);
@@ -103,6 +103,25 @@ fn tags() {
         }
         let longer = [msg.as_slice(), &[0]].concat();
         assert_eq!(key.cmac_verify(&longer, &tag), Ok(false));
+    }
+}
+
+#[test]
+fn wrapped_keys() {
+    for v in vectors("kw", 30, 3) {
+        let (bytes, plain, wrapped) = (v.bytes("key"), v.bytes("pt"), v.bytes("ct"));
+        // with the published tables, whatever the store holds
+        for store in [Store::fresh(), Store::from_bytes([0x5A; Store::LENGTH])] {
+            let master = Key { n: v.number("n"), l: v.number("l"), bytes: &bytes }.expand(&store, 0).unwrap();
+            let mut made = vec![0; wrapped.len()];
+            master.wrap(&store, &plain, &mut made).unwrap();
+            assert_eq!(made, wrapped);
+            let mut key = vec![0; plain.len()];
+            master.unwrap(&store, &wrapped, &mut key).unwrap();
+            assert_eq!(key, plain);
+            made[0] ^= 1;
+            assert_eq!(master.unwrap(&store, &made, &mut key), Err(Error::CheckValue));
+        }
     }
 }
 

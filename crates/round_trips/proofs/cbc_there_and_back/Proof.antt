@@ -19,7 +19,7 @@ use Rattle.sets.specs.Sets.{loaded, partsIn}
 use Rattle.sets.proofs.Sets.{loaded-sound}
 use Rattle.publishers.specs.Pages.{SameSet}
 use Rattle.publishers.proofs.Pages.{same-parts}
-use Rattle.round_trips.proofs.Words.{words-small}
+use Rattle.publishers.proofs.Words.{words-small}
 use Rattle.round_trips.proofs.cbc_there_and_back.Statement.{statement}
 use Rattle.round_trips.proofs.cbc_there_and_back.Tie as tie
 
