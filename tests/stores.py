@@ -376,7 +376,7 @@ def faults(rng):
         for chosen, number in subsets([*records, ("n", 1), ("set", 15), *own]):
             if {"n", "other n"} <= chosen:
                 continue
-            n, i, words, key = pick((2, 4)) if "other n" in chosen else 1, named(chosen), data(256), data(pick((16, 24, 32, 32, 128)))
+            n, i, words, key = pick((2, 4)) if "other n" in chosen else 1, named(chosen), data(256), data(pick((16, 16, 24, 32)))
             source = key
             if op == "key_unwrap":
                 source = worked(papers.Store([PUBLISHED, *HALF], ()).tables(i if i < 3 else 0), "key_wrap", 1, words[:64], key)

@@ -3,17 +3,20 @@
 -- Assumes nothing.
 use mathlib.Core.Path.{_≡_}
 use Prim.Native.Nat.{ℕ}
-use mathlib.Core.List.{List, [], _∷_}
+use mathlib.Core.List.{List, [], _∷_, _++_}
 use lib.ListN.{getD, replicate}
 use Rattle.forms.specs.Lists.{tabulate}
 use Rattle.forms.specs.Words.{words, bytes}
+use Rattle.forms.specs.Strings.{string}
 use Rattle.field.specs.Substitution.{sub, subInv}
 use Rattle.field.specs.Field.{mul, power}
 use Rattle.field.specs.Mixing.{mix}
 use Rattle.field.specs.Published.{table1, row}
 use Rattle.labyrinth.specs.Cipher.{article, P, SL, IMix}
-use Rattle.labyrinth.specs.Keys.{delta}
+use Rattle.labyrinth.specs.Keys.{delta, expandedWords, E}
+use Rattle.labyrinth.specs.Refusals.{padded}
 use Rattle.modes.specs.Ctr.{counter}
+use Rattle.modes.specs.KeyWrap.{ICV1, wrapSteps}
 
 -- the byte that byte i of P(n) comes from: the bytes 0, 1, 2, .. permuted show it
 unfoldable pub from : ℕ → ℕ → ℕ
@@ -54,3 +57,10 @@ values =
 unfoldable pub Holds : List (List ℕ × List ℕ) → Type 0
 Holds [] = Unit {0}
 Holds (p ∷ rest) = (p .0 ≡ p .1) × Holds rest
+
+-- document 02, Job 8: A || R_2 || R_3 after the first step of W, of a key of 16 bytes 00 under the master key of 16 bytes 00 (n = 1, l = 2). The value is the
+-- archivists' program's
+abbrev pub FirstStep : Type 0
+FirstStep =
+    wrapSteps (E article 1 (padded (expandedWords (article .SM) 1 2 (replicate 16 0x00)))) 1 (ICV1 ++ replicate 16 0x00)
+    ≡ string 8 0x7F9D5938C2BE9F07 ++ (string 8 0x0000000000000000 ++ string 8 0x34C39DAB8ADB1340)
