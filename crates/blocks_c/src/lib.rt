@@ -20,11 +20,11 @@ pub extern "C" fn labyrinth_key_encipher(
     if !records::fit(store.len(), working.len()) {
         return 4;
     }
-    let k = records::key_of(working);
+    let k = key_records::key_of(working);
     if k.set == 0 {
         return table_cipher::encipher_published(k, src, dst);
     }
-    table_cipher::encipher_by_table(records::store_of(store), k, src, dst)
+    table_cipher::encipher_by_table(store_records::store_of(store), k, src, dst)
 }
 
 // Deciphers a block.
@@ -41,11 +41,11 @@ pub extern "C" fn labyrinth_key_decipher(
     if !records::fit(store.len(), working.len()) {
         return 4;
     }
-    let k = records::key_of(working);
+    let k = key_records::key_of(working);
     if k.set == 0 {
         return table_cipher::decipher_published(k, src, dst);
     }
-    table_cipher::decipher_by_table(records::store_of(store), k, src, dst)
+    table_cipher::decipher_by_table(store_records::store_of(store), k, src, dst)
 }
 
 // Enciphers a block by the matrix.
@@ -62,8 +62,8 @@ pub extern "C" fn labyrinth_key_encipher_by_matrix(
     if !records::fit(store.len(), working.len()) {
         return 4;
     }
-    let k = records::key_of(working);
-    matrix_cipher::encipher_by_matrix(records::store_of(store), k, src, dst)
+    let k = key_records::key_of(working);
+    matrix_cipher::encipher_by_matrix(store_records::store_of(store), k, src, dst)
 }
 
 // Deciphers a block by the matrix.
@@ -80,6 +80,6 @@ pub extern "C" fn labyrinth_key_decipher_by_matrix(
     if !records::fit(store.len(), working.len()) {
         return 4;
     }
-    let k = records::key_of(working);
-    matrix_cipher::decipher_by_matrix(records::store_of(store), k, src, dst)
+    let k = key_records::key_of(working);
+    matrix_cipher::decipher_by_matrix(store_records::store_of(store), k, src, dst)
 }

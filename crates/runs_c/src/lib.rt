@@ -23,11 +23,11 @@ pub extern "C" fn labyrinth_key_cbc_seal(
     if !records::fit(store.len(), working.len()) {
         return 4;
     }
-    let k = records::key_of(working);
+    let k = key_records::key_of(working);
     if k.set == 0 {
         return cbc::seal_published(k, start, src, dst);
     }
-    cbc::seal(records::store_of(store), k, start, src, dst)
+    cbc::seal(store_records::store_of(store), k, start, src, dst)
 }
 
 // Opens whole blocks by CBC.
@@ -45,11 +45,11 @@ pub extern "C" fn labyrinth_key_cbc_open(
     if !records::fit(store.len(), working.len()) {
         return 4;
     }
-    let k = records::key_of(working);
+    let k = key_records::key_of(working);
     if k.set == 0 {
         return cbc::open_published(k, start, src, dst);
     }
-    cbc::open(records::store_of(store), k, start, src, dst)
+    cbc::open(store_records::store_of(store), k, start, src, dst)
 }
 
 // Seals or opens by CTR, from block q on.
@@ -68,9 +68,9 @@ pub extern "C" fn labyrinth_key_ctr(
     if !records::fit(store.len(), working.len()) {
         return 4;
     }
-    let k = records::key_of(working);
+    let k = key_records::key_of(working);
     if k.set == 0 {
         return ctr::run_published(k, start, q, src, dst);
     }
-    ctr::run(records::store_of(store), k, start, q, src, dst)
+    ctr::run(store_records::store_of(store), k, start, q, src, dst)
 }

@@ -19,7 +19,7 @@ pub extern "C" fn labyrinth_store_fresh(store: &mut [u8]) -> u8
     if size != 1072 {
         return 4;
     }
-    records::put_store(sets::fresh(), store);
+    store_records::put_store(sets::fresh(), store);
     0
 }
 
@@ -42,17 +42,17 @@ pub extern "C" fn labyrinth_store_load(
         return 4;
     }
     let changed = sets::load(
-        records::store_of(store),
+        store_records::store_of(store),
         publisher,
         set,
         substitution,
-        records::row_at(row, 0),
+        store_records::row_at(row, 0),
     );
     if changed.number != 0 {
         return changed.number;
     }
     let after = changed.store;
-    records::put_store(after, store);
+    store_records::put_store(after, store);
     0
 }
 
@@ -65,12 +65,12 @@ pub extern "C" fn labyrinth_store_take(store: &mut [u8], publisher: usize, set: 
     if store.len() != 1072 {
         return 4;
     }
-    let taken = sets::take(records::store_of(store), publisher, set);
+    let taken = sets::take(store_records::store_of(store), publisher, set);
     if taken.number != 0 {
         return taken.number;
     }
     let after = taken.store;
-    records::put_store(after, store);
+    store_records::put_store(after, store);
     0
 }
 
@@ -90,11 +90,11 @@ pub extern "C" fn labyrinth_expand(
     if !records::fit(store.len(), working.len()) {
         return 4;
     }
-    let x = expansion::expand(records::store_of(store), n, l, set, key);
+    let x = expansion::expand(store_records::store_of(store), n, l, set, key);
     if x.number != 0 {
         return x.number;
     }
     let k = x.key;
-    records::put_key(k, working);
+    key_records::put_key(k, working);
     0
 }

@@ -28,22 +28,22 @@ pub extern "C" fn labyrinth_key_cmac(
     if !records::fit(store.len(), working.len()) {
         return 4;
     }
-    let k = records::key_of(working);
+    let k = key_records::key_of(working);
     if k.set == 0 {
         return cmac::make_published(k, message, tag);
     }
-    cmac::make(records::store_of(store), k, message, tag)
+    cmac::make(store_records::store_of(store), k, message, tag)
 }
 
 // A given tag verified, by the set that the key names.
 fn verified(store: &[u8], working: &[u8], message: &[u8], tag: &[u8]) -> Verified
     ensures { λ r. ⌜ r ≡ verification (lentE (now (store .entry)) (now (working .entry))) (now (message .entry)) (now (tag .entry)) (underKey (keyIn (now (working .entry)) .n) (loaded (storeIn (now (store .entry))) (keyIn (now (working .entry)) .set)) (cmacRefusal (keyIn (now (working .entry)) .n) (length (now (tag .entry))))) ⌝ }
 {
-    let k = records::key_of(working);
+    let k = key_records::key_of(working);
     if k.set == 0 {
         return cmac::verify_published(k, message, tag);
     }
-    cmac::verify(records::store_of(store), k, message, tag)
+    cmac::verify(store_records::store_of(store), k, message, tag)
 }
 
 // Verifies a given tag. Every call sets yes.

@@ -16,11 +16,11 @@ pub extern "C" fn labyrinth_key_wrap(store: &[u8], working: &[u8], src: &[u8], d
     if !records::fit(store.len(), working.len()) {
         return 4;
     }
-    let k = records::key_of(working);
+    let k = key_records::key_of(working);
     if k.set == 0 {
         return key_wrap::wrap_published(k, src, dst);
     }
-    key_wrap::wrap(records::store_of(store), k, src, dst)
+    key_wrap::wrap(store_records::store_of(store), k, src, dst)
 }
 
 // Unwraps the wrapped key in src; 18, after all else, if its check value is wrong.
@@ -37,9 +37,9 @@ pub extern "C" fn labyrinth_key_unwrap(
     if !records::fit(store.len(), working.len()) {
         return 4;
     }
-    let k = records::key_of(working);
+    let k = key_records::key_of(working);
     if k.set == 0 {
         return key_wrap::unwrap_published(k, src, dst);
     }
-    key_wrap::unwrap(records::store_of(store), k, src, dst)
+    key_wrap::unwrap(store_records::store_of(store), k, src, dst)
 }
