@@ -269,7 +269,7 @@ def shared(made, place):
     return out
 
 
-INNER = "buffers strings mixing rows eight_tables sets labyrinth tape_rules conversions round_trips".split()  # what tests/wrong/inner.txt calls
+INNER = "buffers strings mixing rows eight_tables sets labyrinth tape_rules conversions round_trips wrapped_trips".split()  # what tests/wrong/inner.txt calls
 
 
 def inner(sources, place):
@@ -575,6 +575,29 @@ def inner_cases():
             tables = archivists_sets.PUBLISHED if i == 0 else given_sets[at]
             tag = b"\x5a" * size if number else worked(tables, n, lambda e: modes.cmac(e, text[:length], size))
             yield "tag_made_and_verified", U8, [*given_sets[at], n, i, text[:length], out(b"\x5a" * size), place_for(1)], (number, tag, bytes([number == 0]))
+    # the same of wrapped keys: one wrapped and unwrapped, and a string unwrapped and wrapped
+    for n, length, middle, end in ((1, 16, 24, 16), (1, 40, 48, 40), (1, 16, 24, 17), (1, 16, 25, 16), (1, 17, 25, 17), (1, 128, 136, 128), (2, 16, 24, 16), (3, 16, 24, 16)):
+        for i, here, there in ((0, 3, 3), (1, 0, 0), (1, 2, 2), (1, 1, 2), (1, 0, 3), (1, 3, 0)):
+            pair = [archivists_sets.PUBLISHED if i == 0 else given_sets[at] for at in (here, there)]
+            loaded_in = [i == 0 or at < 3 for at in (here, there)]
+            wrapped = lambda at, key: worked(pair[at], 1, lambda e: modes.kw_wrap(e, key))
+            unwrapped = lambda at, source: worked(pair[at], 1, lambda e: modes.kw_unwrap(e, source))
+            first = papers.wrapping(n, length, middle, loaded_in[0])
+            sent = b"\x5a" * middle if first else wrapped(0, text[:length])
+            number = first or papers.unwrapping(n, middle, end, loaded_in[1], lambda: unwrapped(1, sent) is not None)
+            buffers = [text[:length], out(b"\x5a" * middle), out(b"\xa5" * end)]
+            came = b"\xa5" * end if number else unwrapped(1, sent)
+            yield "key_wrapped_and_unwrapped", U8, [*given_sets[here], *given_sets[there], n, i, *buffers], (number, sent, came)
+            # the other way round the longer of the three is in front and at the end
+            fits = loaded_in[0] and length in papers.UNWRAPPED_LENGTHS
+            whole = wrapped(0, text[:length]) if fits else text[: length + 8]
+            for source in (whole, bytes([whole[0] ^ 1]) + whole[1:]):
+                first = papers.unwrapping(n, len(source), end, loaded_in[0], lambda: unwrapped(0, source) is not None)
+                key = b"\x5a" * end if first else unwrapped(0, source)
+                number = first or papers.wrapping(n, end, middle, loaded_in[1])
+                buffers = [source, out(b"\x5a" * end), out(b"\xa5" * middle)]
+                again = b"\xa5" * middle if number else wrapped(1, key)
+                yield "key_unwrapped_and_wrapped", U8, [*given_sets[here], *given_sets[there], n, i, *buffers], (number, key, again)
     for g in ROWS:
         for h in ROWS:
             number = papers.mixing(g) or papers.mixing(h)
