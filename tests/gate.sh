@@ -23,6 +23,11 @@ if [ -z "${TMPDIR:-}" ] && [ "$(df -Pm /dev/shm 2>/dev/null | awk 'END { print $
     moment=/dev/shm
 fi
 
+# ---- rt works as many checks at a time as there are processors, and waits for all of them before it begins the next; with twice as many no processor waits. A check takes up to 1.3 GB
+if [ -z "${RT_JOBS:-}" ] && [ "$(awk '/^MemAvailable:/ { print int($2 / 1048576) }' /proc/meminfo)" -ge 12 ]; then
+    export RT_JOBS=$((2 * $(nproc) < 8 ? 2 * $(nproc) : 8))
+fi
+
 # ---- must-fail edits: each can be applied and is named in docs/CONTRACTS.md, and each name there is an edit. Told before the long part
 tests/edit_names.py || { echo "gate: FAILED: the edits and their names"; exit 1; }
 
