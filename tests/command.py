@@ -403,18 +403,18 @@ def wrap_forms(place):
     place.works("a name that is no text", wrap_words(names=("some.key", name)), line(secret), out=os.fsdecode(name))
     for extra in ("-x", "spaced", "out", os.fsdecode(name)):
         os.remove(place.at(extra))
-    # what OUT was: its permissions and a link to it stay; a new one heeds the umask
+    # what OUT was: its permissions and a link to it stay; a new one is its owner's alone
     place.write("out", OLD)
-    os.chmod(place.at("out"), 0o600)
+    os.chmod(place.at("out"), 0o640)
     os.symlink("out", place.at("link"))
     place.works("OUT by a link", wrap_words("unwrap", names=("some.wrapped", "link")), line(key))
-    if not os.path.islink(place.at("link")) or os.stat(place.at("out")).st_mode & 0o7777 != 0o600:
+    if not os.path.islink(place.at("link")) or os.stat(place.at("out")).st_mode & 0o7777 != 0o640:
         raise Wrong("OUT's permissions or the link to it were lost")
     os.remove(place.at("link"))
     os.remove(place.at("out"))
-    place.works("a new OUT under a umask", wrap_words(**unwrap), line(key), preexec_fn=lambda: os.umask(0o077))
+    place.works("an unwrapped key to a new OUT", wrap_words(**unwrap), line(key), preexec_fn=lambda: os.umask(0o022))
     if os.stat(place.at("out")).st_mode & 0o7777 != 0o600:
-        raise Wrong("a new OUT doesn't heed the umask")
+        raise Wrong("a key that was unwrapped to a new OUT can be read by others")
     # the key that came back
     expected = modes.ctr_crypt(labyrinth.Labyrinth(1, key), bytes.fromhex(START), 0, page)
     place.works("a page sealed with the unwrapped key", words(key="out", names=("page", "-")), expected, out="-")

@@ -73,7 +73,7 @@ fn work(a: &Arguments) -> Result<(), Stop> {
     }
 
     let unwritten = |e| unwritten(&a.output, e);
-    let mut output = open_output(&a.output).map_err(unwritten)?;
+    let mut output = open_output(&a.output, 0o666).map_err(unwritten)?;
     let mut progress = Progress::new(length);
     let done = pieces::run(&task, &a.start, PIECE, input, &mut output, |bytes| progress.show(bytes));
     progress.clear();
@@ -142,7 +142,9 @@ fn wrap(a: &WrapArguments) -> Result<(), Stop> {
         }
         _ => stop(error, given.len()),
     })?;
-    let written = open_output(&a.output).and_then(|mut output| output.write_all(digits(&made).as_bytes()).and_then(|()| output.finish()));
+    // a key that was unwrapped is for its owner alone
+    let fresh = if a.wrap { 0o666 } else { 0o600 };
+    let written = open_output(&a.output, fresh).and_then(|mut output| output.write_all(digits(&made).as_bytes()).and_then(|()| output.finish()));
     written.map_err(|e| unwritten(&a.output, e))
 }
 
@@ -172,11 +174,12 @@ fn open_input(name: &OsStr) -> Result<(File, Metadata), Stop> {
     opened.and_then(|file| file.metadata().map(|held| (file, held))).map_err(|e| unread(name, e))
 }
 
-fn open_output(name: &OsStr) -> io::Result<Output> {
+/// Standard output, or a file that, where it is a new one, has the permissions `fresh`.
+fn open_output(name: &OsStr, fresh: u32) -> io::Result<Output> {
     if name == "-" {
         Output::standard()
     } else {
-        Output::beside(name.as_ref())
+        Output::beside(name.as_ref(), fresh)
     }
 }
 

@@ -71,8 +71,8 @@ impl Output {
     }
 
     /// A new file beside `out`; beside what it points to, if it is a link. What stands there is replaced only if it is a file that may be
-    /// written, and hands on its permissions.
-    pub fn beside(out: &Path) -> io::Result<Output> {
+    /// written, and hands on its permissions; where nothing stands they are `fresh`, less what the umask takes.
+    pub fn beside(out: &Path, fresh: u32) -> io::Result<Output> {
         let out = match fs::symlink_metadata(out) {
             Ok(held) if held.file_type().is_symlink() => fs::canonicalize(out)?,
             _ => out.to_path_buf(),
@@ -88,8 +88,8 @@ impl Output {
         };
         let directory = directory(&out);
         catch_signals();
-        // never wider than OUT's own; without one as the umask says
-        let mode = permissions.as_ref().map_or(0o666, |p| p.mode() & 0o777);
+        // never wider than OUT's own
+        let mode = permissions.as_ref().map_or(fresh, |p| p.mode() & 0o777);
         for count in 0..1000 {
             let part = directory.join(format!(".labyrinth.{}.{count}.part", std::process::id()));
             match OpenOptions::new().write(true).create_new(true).mode(mode).open(&part) {
