@@ -19,16 +19,13 @@ fail() { echo "gate: FAILED: $*"; failures=$((failures + 1)); }
 
 # ---- what a check writes for the moment, some thousands of files of 260 MB, goes to memory where there is room for it and a program can be run from there
 moment=${TMPDIR:-/tmp}
-if [ -z "${TMPDIR:-}" ] && [ "$(df -Pm /dev/shm 2>/dev/null | awk 'END { print $4 + 0 }')" -ge 4096 ] && ! grep -q '^[^ ]* /dev/shm [^ ]* [^ ]*noexec' /proc/mounts; then
+if [ -z "${TMPDIR:-}" ] && [ "$(df -Pm /dev/shm 2>/dev/null | awk 'END { print $4 + 0 }')" -ge 2048 ] && ! grep -q '^[^ ]* /dev/shm [^ ]* [^ ]*noexec' /proc/mounts; then
     moment=/dev/shm
 fi
 
-# ---- rt begins as many checks at a time as there are processors, and waits for all of them before it begins the next; with four times as many no processor waits long. A check takes up
-# to 1.3 GB, and 0.3 of what it writes for the moment
-if [ -z "${RT_JOBS:-}" ]; then
-    room=$(awk '/^MemAvailable:/ { print int($2 / 1048576 / 2) }' /proc/meminfo)
-    jobs=$((4 * $(nproc) < room ? 4 * $(nproc) : room))
-    [ "$jobs" -le "$(nproc)" ] || export RT_JOBS=$jobs
+# ---- rt works as many checks at a time as there are processors, and waits for all of them before it begins the next; with twice as many no processor waits. A check takes up to 1.3 GB
+if [ -z "${RT_JOBS:-}" ] && [ "$(awk '/^MemAvailable:/ { print int($2 / 1048576) }' /proc/meminfo)" -ge 12 ]; then
+    export RT_JOBS=$((2 * $(nproc) < 8 ? 2 * $(nproc) : 8))
 fi
 
 # ---- must-fail edits: each can be applied and is named in docs/CONTRACTS.md, and each name there is an edit. Told before the long part
