@@ -1,12 +1,14 @@
 -- Document 02, Job 9, sentence by sentence, as Requests has the requests before it.
 -- Assumes nothing.
 use mathlib.Core.Path.{_≡_}
-use mathlib.Core.Bool.{true, false}
+use mathlib.Core.Bool.{Bool, true, false}
 use mathlib.Core.Logic.{_↔_}
 use mathlib.Core.List.{List, [], _∷_, _++_}
 use Prim.Native.Nat.{ℕ, _+_, _-_, _*_, _/_, _%_, _^_, _≤_, _<_}
+use lib.Dec.{eqb}
 use lib.ListN.{length, take, drop}
-use Rattle.forms.specs.Refusals.{Unless, outcome}
+use Rattle.forms.specs.Lists.{when}
+use Rattle.forms.specs.Refusals.{unless, Unless, outcome, firstOf}
 use Rattle.labyrinth.specs.declared.WorkingKey.{WorkingKey}
 use Rattle.labyrinth.specs.declared.Expanded.{Expanded}
 use Rattle.labyrinth.specs.Keys.{E, U, expandedWords}
@@ -145,6 +147,21 @@ PageTravels =
     → (parts r .sealed ≡ cbcSeal (E (partsIn s i) n (padded (expandedWords (partsIn s i .SM) n l sealing-secret))) 16 start body)
     × (parts r .tag ≡ tag (E (partsIn s j) m (padded (expandedWords (partsIn s j .SM) m k tag-secret))) 16 (take (length r - 17) r))
     × (number ≡ 0) × (after ≡ body)
+
+-- and of functions that write a record and read it, for all arguments: the entry, or that of the writer's refusal; whether the title is the one handed in;
+-- and Job 7's ComesBackIn, where the stores have the sets of both keys alike
+abbrev pub CataloguesWritten : ℕ → ℕ → ℕ → List ℕ → Entry → Type 0
+CataloguesWritten refusal page day body answer =
+    answer ≡ when (eqb refusal 0) (record { number = 0; page = page; day = day; blocks = length body / 16 }) (record { number = refusal; page = 0; day = 0; blocks = 0 })
+
+abbrev pub TitlesWritten : ℕ → Bool → Type 0
+TitlesWritten refusal same = (same ≡ true) ↔ (refusal ≡ 0)
+
+abbrev pub PageComesBackIn : Store → Store → WorkingKey → WorkingKey → ℕ → ℕ → List ℕ → ℕ → List ℕ → List ℕ → Type 0
+PageComesBackIn s t sealing tagging writing reading body number before after =
+    (number ≡ firstOf writing reading)
+    × (SameSet (sealing .set) s t → SameSet (tagging .set) s t
+    → (number ≡ firstOf writing (unless (eqb (length before) (length body)) 5 0)) × (after ≡ outcome number body before))
 
 -- "The writer checks the two keys as the keyed reader does": "1, 15 and 12 for the sealing key, the same for the tag key", in plain terms and in order
 abbrev pub PageKey : Store → WorkingKey → ℕ → Type 0 → Type 0
