@@ -13,7 +13,6 @@ use Rattle.modes.proofs.Cbc.{length-seal}
 use Rattle.modes.proofs.Cmac.{length-tag}
 use Rattle.sets.specs.Sets.{partsIn}
 use Rattle.pages.specs.Pages.{command}
-use Rattle.pages.proofs.Commands.{length-sealedCommands}
 use Rattle.keyed_pages.specs.Keyed.{sealUnder, tagUnder, written}
 use Rattle.keyed_pages.proofs.Refusals.{Write-taken, write-taken}
 use Rattle.page_heads.proofs.Puts.{with-part, put-part}
@@ -110,7 +109,7 @@ put-blocks-requires c κs =
     let s = begin-head q in
     let t = taken s in
     let l : at s ≤ length (with-part (room s) (hd q) 0 60) = omega (arith, t .long, kept-hd q) in
-    (t .keys .sealing-one, t .keys .sealing-loaded, t .started, t .whole, part-length (with-part (room s) (hd q) 0 60) 60 (at s) (omega arith) l ∙ omega arith)
+    (search (t .keys), search (t .keys), t .started, t .whole, part-length (with-part (room s) (hd q) 0 60) 60 (at s) (omega arith) l ∙ omega arith)
 
 -- the blocks as they come back
 module _ (q : tie.After-put-blocks) where
@@ -128,8 +127,8 @@ module _ (q : tie.After-put-blocks) where
 
   long-bl : length bl ≡ at begin - 60
   long-bl =
-      ap length (q .put-blocks .ensures)
-      ∙ length-sealedCommands (length (text begin) / 16) _ (omega (arith, sealed-long begin, taken begin .whole)) ∙ omega arith
+      let d = with-part (room begin) (hd before-blocks) 0 60 in
+      q .put-blocks .kept .1 .1 .1 .1 .0 ∙ part-length d 60 (at begin) (omega arith) (omega (arith, taken begin .long, kept-hd before-blocks))
 
   fits : at begin + 17 ≤ length (room begin)
   fits = omega (arith, taken begin .long)
@@ -147,10 +146,10 @@ slice-reshare-prefix-tag-of : tie.Need-slice-reshare-prefix-tag-of
 slice-reshare-prefix-tag-of c = omega (arith, fits (c .before .before), kept-bl (c .before .before))
 
 slice-aggregate-tag-of : tie.Need-slice-aggregate-tag-of
-slice-aggregate-tag-of c = let q = c .before .before .before in sym (length-take-le (length (room (begin q)) - 17) (both q) (omega (arith, kept-bl q)))
+slice-aggregate-tag-of c = let q = c .before .before .before in sym (length-take-le _ (both q) (omega (arith, kept-bl q)))
 
 tag-of-requires : tie.Need-tag-of-requires
-tag-of-requires c κs = let k = taken (begin (c .before .before .before)) .keys in (k .tagging-one, k .tagging-loaded)
+tag-of-requires c κs = let k = taken (begin (c .before .before .before)) .keys in (search k, search k)
 
 sub-put-command : tie.Need-sub-put-command
 sub-put-command c = omega (arith, fits (c .before .before .before .before), kept-bl (c .before .before .before .before))
