@@ -1,6 +1,6 @@
--- Parts of a record put into place.
+-- A command put into a buffer, and parts of a buffer put one after another.
 -- Assumes nothing.
-use mathlib.Core.Path.{_≡_, refl, sym, ap, _∙_}
+use mathlib.Core.Path.{_≡_, sym, ap, _∙_}
 use mathlib.Core.List.{List, [], _∷_, _++_, append-nil}
 use Prim.Native.Nat.{ℕ, suc, _+_, _-_, _≤_}
 use native.Mathlib.Omega.{arith}
@@ -22,12 +22,13 @@ put-behind (x ∷ d) ys xs c l k e =
     ap (λ (y : List ℕ). c ∷ (ys ++ y)) (drop-of-length-le d {i = suc (length d) - 1} (omega arith))
     ∙ ap (λ (y : List ℕ). c ∷ y) (append-nil ys ∙ copy-whole (take (suc (length d) - 1) d) m e k)
 
--- parts of a buffer put one after another
+-- ---- parts one after another
 
 -- the buffer with ys put from a place to another
 abbrev pub with-part : List ℕ → List ℕ → ℕ → ℕ → List ℕ
 with-part d ys at end = take at d ++ (ys ++ drop (end - at) (drop at d))
 
+-- what is left then, and what stands before the part's end
 pub record Put (d d′ ys : List ℕ) (at end : ℕ) : Type 0 where
   pub kept : length d′ ≡ length d
   pub turn : (rest : List ℕ) → take end d′ ++ rest ≡ take at d ++ (ys ++ rest)
@@ -46,6 +47,6 @@ four-parts d y1 y2 y3 y4 l a b c e =
     let p3 = put-part d2 y3 10 43 (omega arith) (omega (arith, p1 .kept, p2 .kept)) (omega arith) in
     let d4 = with-part d3 y4 43 60 in
     let p4 = put-part d3 y4 43 60 (omega arith) (omega (arith, p1 .kept, p2 .kept, p3 .kept)) (omega arith) in
-    sym (append-nil d4 ∙ refl) ∙ ap (λ (x : List ℕ). x ++ []) (sym (take-all 60 d4 (omega (arith, p1 .kept, p2 .kept, p3 .kept, p4 .kept))))
+    sym (append-nil d4) ∙ ap (λ (x : List ℕ). x ++ []) (sym (take-all 60 d4 (omega (arith, p1 .kept, p2 .kept, p3 .kept, p4 .kept))))
     ∙ p4 .turn [] ∙ p3 .turn (y4 ++ []) ∙ p2 .turn (y3 ++ (y4 ++ [])) ∙ p1 .turn (y2 ++ (y3 ++ (y4 ++ [])))
     ∙ ap (λ (x : List ℕ). y1 ++ (y2 ++ (y3 ++ x))) (append-nil y4)

@@ -11,12 +11,11 @@ ghost use Rattle.pages.specs.Pages.{command, fourBytes};
 fn four_bytes(v: u32) -> [u8; 4]
     ensures { λ r. ⌜ r ≡ fourBytes v ⌝ }
 {
-    [
-        (v % 256) as u8,
-        (v / 256 % 256) as u8,
-        (v / 65536 % 256) as u8,
-        (v / 16777216 % 256) as u8,
-    ]
+    let a = (v % 256) as u8;
+    let b = (v / 256 % 256) as u8;
+    let c = (v / 65536 % 256) as u8;
+    let d = (v / 16777216 % 256) as u8;
+    [a, b, c, d]
 }
 
 // A command with its operand, in a buffer of their length.

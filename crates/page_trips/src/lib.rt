@@ -72,7 +72,7 @@ pub fn written_and_titled(
     ensures same { λ r. ⌜ r ≡ eqb (writeRefusal store sealing tagging (length (now (title .entry))) (length (now (start .entry))) (length (now (body .entry))) (length (now (mid .entry)))) 0 ⌝ }
     ensures page { λ _. ⌜ now (mid .exit) ≡ outcome (writeRefusal store sealing tagging (length (now (title .entry))) (length (now (start .entry))) (length (now (body .entry))) (length (now (mid .entry)))) (written store sealing tagging number day (now (title .entry)) (now (start .entry)) (now (body .entry))) (now (mid .entry)) ⌝ }
 {
-    let r = page_writer::write(
+    let refusal = page_writer::write(
         store,
         sealing,
         tagging,
@@ -83,7 +83,7 @@ pub fn written_and_titled(
         body,
         mid,
     );
-    if r != 0 {
+    if refusal != 0 {
         return false;
     }
     strings::equal(catalogue::title(mid), title)
@@ -110,7 +110,7 @@ pub fn written_and_opened(
     ensures right { λ r. ⌜ (SameSet (sealing .set) writing reading → SameSet (tagging .set) writing reading → r ≡ firstOf (writeRefusal writing sealing tagging (length (now (title .entry))) (length (now (start .entry))) (length (now (body .entry))) (length (now (mid .entry)))) (unless (eqb (length (now (dst .entry))) (length (now (body .entry)))) 5 0)) ⌝ }
     ensures back { λ r. ⌜ (SameSet (sealing .set) writing reading → SameSet (tagging .set) writing reading → now (dst .exit) ≡ outcome r (now (body .entry)) (now (dst .entry))) ⌝ }
 {
-    let r = page_writer::write(
+    let first = page_writer::write(
         writing,
         sealing,
         tagging,
@@ -121,8 +121,8 @@ pub fn written_and_opened(
         body,
         mid,
     );
-    if r != 0 {
-        return r;
+    if first != 0 {
+        return first;
     }
     page_reader::open(reading, sealing, tagging, mid, dst)
 }

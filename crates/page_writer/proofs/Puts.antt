@@ -1,17 +1,18 @@
--- Parts of a record put into place.
+-- A record put into place: what the callees leave, and the parts one after another.
 -- Assumes nothing.
 use mathlib.Core.Path.{_≡_, sym, ap, ap₂, _∙_}
 use mathlib.Core.List.{List, [], _++_, append-nil, append-assoc}
 use Prim.Native.Nat.{ℕ, _+_, _-_, _*_, _/_, _%_, _≤_}
 use native.Mathlib.Omega.{arith}
 use borrow.Author.Tests.{eq-eqb}
-use lib.ListN.{length, take, drop, length-drop, drop-of-length-le, length-append}
-use lib.Seq.{take-all, drop-at, length-take-le}
 use lib.Dec.{eqb}
+use lib.ListN.{length, take, drop, length-drop, length-append}
+use lib.Seq.{take-all, drop-at, length-take-le}
 use Rattle.forms.specs.Refusals.{unless, outcome}
+use Rattle.forms.proofs.Parts.{part-to-end}
 use Rattle.pages.specs.Pages.{command, fourBytes, sealedCommands, front, layout, withTag, sealedPage}
-use Rattle.page_heads.proofs.Puts.{with-part, Put, put-part}
 use Rattle.pages.proofs.Commands.{length-fourBytes}
+use Rattle.page_heads.proofs.Puts.{with-part, Put, put-part}
 
 -- an operation that is not refused
 pub done : {r n : ℕ} {new : List ℕ} (out old : List ℕ) → r ≡ n → n ≡ 0 → new ≡ outcome r out old → new ≡ out
@@ -34,15 +35,14 @@ apart-done d m l e o =
     done (sealedCommands (length d / 17) (drop (length d / 17) d)) d e (rw (eq-eqb (length d % 17) 0 w)) o ∙ ap (λ (k : ℕ). sealedCommands k (drop k d)) i
 
 -- blocks sealed at the end of a buffer, behind so many bytes
-pub sealed-end : (d ys : List ℕ) (m : ℕ) → m ≤ length d → length ys ≡ length d - m → drop m (take m d ++ (ys ++ drop (length d - m) (drop m d))) ≡ ys
-sealed-end d ys m h l =
-    drop-at (take m d) (ys ++ drop (length d - m) (drop m d)) m (length-take-le m d h)
-    ∙ ap (λ (x : List ℕ). ys ++ x) (drop-of-length-le (drop m d) {i = length d - m} (omega (arith, length-drop m d))) ∙ append-nil ys
+pub sealed-end : (d ys : List ℕ) (m : ℕ) → m ≤ length d → drop m (take m d ++ (ys ++ drop (length d - m) (drop m d))) ≡ ys
+sealed-end d ys m h = ap (drop m) (part-to-end d ys m) ∙ drop-at (take m d) ys m (length-take-le m d h)
 
 -- a part from a place to the end
 pub from-on : (xs : List ℕ) (at : ℕ) → take (length xs - at) (drop at xs) ≡ drop at xs
 from-on xs at = take-all (length xs - at) (drop at xs) (omega (arith, length-drop at xs))
 
+-- the head and the blocks put into a buffer, which has 17 bytes more
 module _ (d h b : List ℕ) (at : ℕ) (low : 60 ≤ at) (fits : at + 17 ≤ length d) (lh : length h ≡ 60) (lb : length b ≡ at - 60) where
   p1 : Put d (with-part d h 0 60) h 0 60
   p1 = put-part d h 0 60 (omega arith) (omega arith) (omega arith)
@@ -54,21 +54,14 @@ module _ (d h b : List ℕ) (at : ℕ) (low : 60 ≤ at) (fits : at + 17 ≤ len
   pub before-last : take at (with-part (with-part d h 0 60) b 60 at) ≡ h ++ b
   before-last = sym (append-nil _) ∙ p2 .turn [] ∙ p1 .turn (b ++ []) ∙ ap (λ (x : List ℕ). h ++ x) (append-nil b)
 
-  pub three-parts : (g : List ℕ) → length d ≡ at + 17 → length g ≡ 17 → with-part (with-part (with-part d h 0 60) b 60 at) g at (at + 17) ≡ (h ++ b) ++ g
-  three-parts g l lg =
-      let d2 = with-part (with-part d h 0 60) b 60 at in
-      let p3 = put-part d2 g at (at + 17) (omega arith) (omega (arith, p1 .kept, p2 .kept)) (omega arith) in
-      let d3 = with-part d2 g at (at + 17) in
-      sym (append-nil d3) ∙ ap (λ (x : List ℕ). x ++ []) (sym (take-all (at + 17) d3 (omega (arith, p1 .kept, p2 .kept, p3 .kept))))
-      ∙ p3 .turn [] ∙ ap₂ (λ (x y : List ℕ). x ++ y) before-last (append-nil g)
-
--- the commands before the blocks, and all of them together
+-- the commands before the blocks
 abbrev pub head : ℕ → ℕ → List ℕ → List ℕ → List ℕ
 head number day title start = command 0x10 (fourBytes number) ++ (command 0x11 (fourBytes day) ++ (command 0x12 title ++ command 0x13 start))
 
 head-front : (a b t s c : List ℕ) → (command 0x10 a ++ (command 0x11 b ++ (command 0x12 t ++ command 0x13 s))) ++ c ≡ command 0x10 a ++ (command 0x11 b ++ (command 0x12 t ++ (command 0x13 s ++ c)))
 head-front a b t s c = simp append-assoc
 
+-- with the blocks and the tag behind them they are the record
 pub page-laid : (seal : List ℕ → List ℕ → List ℕ) (tag : List ℕ → List ℕ) (number day : ℕ) (title start text : List ℕ) {h b g : List ℕ}
     → h ≡ head number day title start → b ≡ sealedCommands (length text / 16) (seal start text) → length (seal start text) ≡ length text → g ≡ command 0x1F (tag (h ++ b))
     → (h ++ b) ++ g ≡ layout (sealedPage seal tag number day title start text)

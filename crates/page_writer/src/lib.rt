@@ -31,7 +31,7 @@ fn tag_of(store: Store, k: WorkingKey, message: &[u8]) -> [u8; 16]
     tag
 }
 
-// The whole record, where nothing is refused.
+// The whole record, where nothing is refused. The tag is of all bytes but the last 17.
 fn put_record(
     store: Store,
     sealing: WorkingKey,
@@ -47,11 +47,11 @@ fn put_record(
     ensures { λ _. ⌜ now (d .exit) ≡ written store sealing tagging number day (now (title .entry)) (now (start .entry)) (now (body .entry)) ⌝ }
 {
     let at = 60 + 17 * (body.len() / 16);
-    let end = at + 17;
+    let covered = d.len() - 17;
     page_heads::put_head(number, day, title, start, &mut d[0..60]);
     put_blocks(store, sealing, start, body, &mut d[60..at]);
-    let tag = tag_of(store, tagging, &d[..at]);
-    page_heads::put_command(&mut d[at..end], 0x1F, &tag);
+    let tag = tag_of(store, tagging, &d[..covered]);
+    page_heads::put_command(&mut d[at..], 0x1F, &tag);
 }
 
 // The checks in their order: 1, 15 and 12 for the sealing key, the same for the tag key, then 19, 6, 4 and 5 for the lengths.

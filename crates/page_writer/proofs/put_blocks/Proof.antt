@@ -60,7 +60,7 @@ returns c =
     let h : m ≤ length d = omega (arith, a .pre .4) in
     let e = c .before .before .apart .ensures in
     apart-done (take m d ++ (k .last .1 .1 .1 .1 .0 ++ drop (length d - m) (drop m d))) m (part-kept d (k .last .1 .1 .1 .1 .0) m (length d) h (omega arith) ly ∙ a .pre .4) (e .0) (e .1)
-    ∙ ap (sealedCommands m) (sealed-end d (k .last .1 .1 .1 .1 .0) m h ly ∙ y)
+    ∙ ap (sealedCommands m) (sealed-end d (k .last .1 .1 .1 .1 .0) m h ∙ y)
 
 pub put-blocks-spec : {M : Type 1} → statement M
 put-blocks-spec =

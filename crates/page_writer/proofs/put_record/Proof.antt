@@ -2,22 +2,21 @@
 -- Assumes nothing.
 use mathlib.Core.Path.{_≡_, refl, sym, ap, _∙_}
 use mathlib.Core.List.{List, _++_}
-use Prim.Native.Nat.{ℕ, suc, _+_, _-_, _*_, _/_, _≤_}
+use Prim.Native.Nat.{ℕ, _+_, _-_, _*_, _/_, _≤_}
 use native.Mathlib.Omega.{arith}
 use borrow.Author.Needs.{needs}
 use lib.ListN.{length, take, drop}
 use lib.Seq.{length-take-le}
-use Rattle.forms.proofs.Parts.{part-length}
+use Rattle.forms.proofs.Parts.{part-length, part-to-end}
 use Rattle.modes.proofs.Maps.{keeps-one}
 use Rattle.modes.proofs.Cbc.{length-seal}
 use Rattle.modes.proofs.Cmac.{length-tag}
 use Rattle.sets.specs.Sets.{partsIn}
 use Rattle.pages.specs.Pages.{command}
-use Rattle.pages.proofs.Commands.{length-sealedCommands}
 use Rattle.keyed_pages.specs.Keyed.{sealUnder, tagUnder, written}
 use Rattle.keyed_pages.proofs.Refusals.{Write-taken, write-taken}
 use Rattle.page_heads.proofs.Puts.{with-part, put-part}
-use Rattle.page_writer.proofs.Puts.{head-done, command-done, before-last, three-parts, head, head-length, page-laid}
+use Rattle.page_writer.proofs.Puts.{head-done, command-done, before-last, head, head-length, page-laid}
 use Rattle.page_writer.proofs.put_record.Statement.{statement}
 use Rattle.page_writer.proofs.put_record.Tie as tie
 
@@ -60,8 +59,8 @@ mul-at c = search needs
 add-at : tie.Need-add-at
 add-at c = search needs
 
-add-end : tie.Need-add-end
-add-end c = search needs
+sub-covered : tie.Need-sub-covered
+sub-covered c = omega (arith, taken (c .before .before .before .before) .long)
 
 sub-put-head : tie.Need-sub-put-head
 sub-put-head c = search needs
@@ -107,10 +106,10 @@ part-put-blocks-end c = omega (arith, taken (c .before .before .before .before .
 put-blocks-requires : tie.Need-put-blocks-requires
 put-blocks-requires c κs =
     let q = c .before .before .before in
-    let s = q .before .before .before .before .before .before in
+    let s = begin-head q in
     let t = taken s in
     let l : at s ≤ length (with-part (room s) (hd q) 0 60) = omega (arith, t .long, kept-hd q) in
-    (t .keys .sealing-one, t .keys .sealing-loaded, t .started, t .whole, part-length (with-part (room s) (hd q) 0 60) 60 (at s) (omega arith) l ∙ omega arith)
+    (search (t .keys), search (t .keys), t .started, t .whole, part-length (with-part (room s) (hd q) 0 60) 60 (at s) (omega arith) l ∙ omega arith)
 
 -- the blocks as they come back
 module _ (q : tie.After-put-blocks) where
@@ -128,8 +127,8 @@ module _ (q : tie.After-put-blocks) where
 
   long-bl : length bl ≡ at begin - 60
   long-bl =
-      ap length (q .put-blocks .ensures)
-      ∙ length-sealedCommands (length (text begin) / 16) _ (omega (arith, sealed-long begin, taken begin .whole)) ∙ omega arith
+      let d = with-part (room begin) (hd before-blocks) 0 60 in
+      q .put-blocks .kept .1 .1 .1 .1 .0 ∙ part-length d 60 (at begin) (omega arith) (omega (arith, taken begin .long, kept-hd before-blocks))
 
   fits : at begin + 17 ≤ length (room begin)
   fits = omega (arith, taken begin .long)
@@ -139,6 +138,7 @@ module _ (q : tie.After-put-blocks) where
       put-part (with-part (room begin) (hd before-blocks) 0 60) bl 60 (at begin) (omega arith) (omega (arith, fits, kept-hd before-blocks)) long-bl .kept
       ∙ kept-hd before-blocks
 
+  -- all bytes before 1F
   front : take (at begin) both ≡ hd before-blocks ++ bl
   front = before-last (room begin) (hd before-blocks) bl (at begin) (omega arith) fits (long-hd before-blocks) long-bl
 
@@ -146,16 +146,16 @@ slice-reshare-prefix-tag-of : tie.Need-slice-reshare-prefix-tag-of
 slice-reshare-prefix-tag-of c = omega (arith, fits (c .before .before), kept-bl (c .before .before))
 
 slice-aggregate-tag-of : tie.Need-slice-aggregate-tag-of
-slice-aggregate-tag-of c = let q = c .before .before .before in sym (length-take-le (at (begin q)) (both q) (omega (arith, fits q, kept-bl q)))
+slice-aggregate-tag-of c = let q = c .before .before .before in sym (length-take-le _ (both q) (omega (arith, kept-bl q)))
 
 tag-of-requires : tie.Need-tag-of-requires
-tag-of-requires c κs = let k = taken (begin (c .before .before .before)) .keys in (k .tagging-one, k .tagging-loaded)
+tag-of-requires c κs = let k = taken (begin (c .before .before .before)) .keys in (search k, search k)
 
 sub-put-command : tie.Need-sub-put-command
-sub-put-command c = search needs
+sub-put-command c = omega (arith, fits (c .before .before .before .before), kept-bl (c .before .before .before .before))
 
 part-put-command-start : tie.Need-part-put-command-start
-part-put-command-start c = search needs
+part-put-command-start c = omega (arith, fits (c .before .before .before .before), kept-bl (c .before .before .before .before))
 
 part-put-command-end : tie.Need-part-put-command-end
 part-put-command-end c = omega (arith, fits (c .before .before .before .before), kept-bl (c .before .before .before .before))
@@ -179,11 +179,13 @@ returns c =
     let h = hd (before-blocks q) in
     let k = c .before .before .put-command in
     let tag = tagUnder (g .store) (g .tagging) in
-    let e : t .tag-of .result ≡ tag (h ++ bl q) = t .tag-of .ensures ∙ ap tag (front q) in
+    let covered : length (room s) - 17 ≡ at s = omega (arith, taken s .long) in
+    let e : t .tag-of .result ≡ tag (h ++ bl q) = t .tag-of .ensures ∙ ap tag (ap (λ (i : ℕ). take i (both q)) covered ∙ front q) in
     let l : length (t .tag-of .result) ≡ 16 = ap length e ∙ tag-long s (h ++ bl q) in
-    let p = part-length (both q) (at s) (at s + 17) (omega arith) (omega (arith, fits q, kept-bl q)) in
-    let f : k .last .0 ≡ command 0x1F (tag (h ++ bl q)) = command-done (command 0x1F (t .tag-of .result)) _ (length (t .tag-of .result)) (length (take (at s + 17 - at s) (drop (at s) (both q)))) (omega (arith, p, l)) (k .ensures .0) (k .ensures .1) ∙ ap (command 0x1F) e in
-    three-parts (room s) h (bl q) (at s) (omega arith) (fits q) (long-hd (before-blocks q)) (long-bl q) (k .last .0) (omega (arith, taken s .long)) (ap length f ∙ ap suc (tag-long s (h ++ bl q)))
+    let p = part-length (both q) (at s) (length (both q)) (omega (arith, fits q, kept-bl q)) (omega arith) in
+    let r : length (take (length (both q) - at s) (drop (at s) (both q))) ≡ 1 + length (t .tag-of .result) = omega (arith, p, l, kept-bl q, taken s .long) in
+    let f : k .last .0 ≡ command 0x1F (tag (h ++ bl q)) = command-done (command 0x1F (t .tag-of .result)) _ _ _ r (k .ensures .0) (k .ensures .1) ∙ ap (command 0x1F) e in
+    part-to-end (both q) (k .last .0) (at s) ∙ ap (λ (x : List ℕ). x ++ k .last .0) (front q)
     ∙ page-laid (sealUnder (g .store) (g .sealing)) tag (g .number) (g .day) (title s) (start s) (text s) (head-put (before-blocks q)) (q .put-blocks .ensures) (sealed-long s) f
 
 pub put-record-spec : {M : Type 1} → statement M
@@ -192,7 +194,7 @@ put-record-spec =
     (tie.spec
     mul-at
     add-at
-    add-end
+    sub-covered
     sub-put-head
     part-put-head-start
     part-put-head-end
