@@ -124,9 +124,9 @@ module _ (store : Store) (k : WorkingKey) (one : k .n ≡ 1) (is : loaded store 
       let long : length start ≡ 16 * k .n = ap length a ∙ length-take-le 16 (drop 44 r) (omega (arith, length-drop 44 r, record-length r e)) ∙ sym size in
       let whole : length sealed % (16 * k .n) ≡ 0 = ap₂ (λ (a b : ℕ). a % b) l size ∙ omega arith in
       let none : number ≡ 0 =
-          n
-          ∙ under-loaded (k .n) (loaded store (k .set)) (cbcRefusal (k .n) (length start) (length sealed) (length sealed)) (cbc-one (k .n) (length start) (length sealed) (length sealed)) is
-          ∙ cbc-iff (k .n) (length start) (length sealed) (length sealed) .1 (inl one, long, whole, refl) in
+      n
+      ∙ under-loaded (k .n) (loaded store (k .set)) (cbcRefusal (k .n) (length start) (length sealed) (length sealed)) (cbc-one (k .n) (length start) (length sealed) (length sealed)) is
+      ∙ cbc-iff (k .n) (length start) (length sealed) (length sealed) .1 (inl one, long, whole, refl) in
       o ∙ ap (λ (i : ℕ). outcome i (cbcOpen m (16 * k .n) start sealed) sealed) none
       ∙ ap (λ (z : ℕ). cbcOpen m z start sealed) size
       ∙ ap₂ (cbcOpen m 16) (a ∙ sym (record-start r e)) s
