@@ -4,10 +4,9 @@
 use mathlib.Core.Path.{_≡_, refl, ap, ap₂, _∙_}
 use mathlib.Core.Bool.{Bool}
 use mathlib.Core.List.{List, []}
-use Prim.Native.Nat.{ℕ, _*_}
+use Prim.Native.Nat.{ℕ}
 use lib.Dec.{eqb}
 use Rattle.forms.specs.Refusals.{unless}
-use Rattle.forms.specs.Strings.{same}
 use Rattle.labyrinth.specs.declared.WorkingKey.{WorkingKey}
 use Rattle.labyrinth.specs.Cipher.{Parts}
 use Rattle.labyrinth.specs.Keys.{E, U}
@@ -19,7 +18,7 @@ use Rattle.modes.proofs.Used.{seal-used, open-used, tag-used}
 use Rattle.sets.specs.declared.Store.{Store}
 use Rattle.sets.specs.Sets.{setIn, partsIn, loaded}
 use Rattle.sets.proofs.Sets.{loaded-alike, parts-alike}
-use Rattle.pages.specs.Pages.{front, layout, blocks, isRecord, parts, sealedPage, withTag, tagged, body}
+use Rattle.pages.specs.Pages.{front, layout, parts, sealedPage, withTag, tagged, body}
 use Rattle.keyed_pages.specs.Keyed.{sealUnder, openUnder, tagUnder, written, opened}
 use Rattle.keyed_pages.specs.Refusals.{forKey, forKeys, writeLengths, writeRefusal, readRefusal}
 
@@ -72,9 +71,7 @@ module _ (s t : Store) (k j m o : WorkingKey) (h : SameMaps s t k j) (g : SameMa
 
   pub read-number-like : (r : List ℕ) (destination : ℕ) → readRefusal s k m r destination ≡ readRefusal t j o r destination
   unfolding readRefusal tagged
-  read-number-like r destination =
-      keys-like _
-      ∙ ap (λ (x : List ℕ). forKeys t j o (unless (isRecord r) 19 (unless (same x (parts r .tag)) 20 (unless (eqb destination (16 * blocks r)) 5 0)))) (g .tags (front (parts r)))
+  read-number-like r destination = rw (g .tags (front (parts r))) (keys-like _)
 
   pub written-like : (number day : ℕ) (title start text : List ℕ) → written s k m number day title start text ≡ written t j o number day title start text
   unfolding written sealedPage withTag

@@ -147,6 +147,14 @@ module _ (store : Store) (sealing tagging : WorkingKey) (r : List ℕ) (destinat
       unless-plain (tagged (tagUnder store tagging) (parts r)) 20 _ e (λ t. t, λ t. t) (λ e.
       unless-plain (eqb destination (16 * blocks r)) 5 _ e (eqb-iff destination (16 * blocks r)) (λ e. e)))
 
+  -- the whole order: both keys before them
+  pub read-number : {a : ℕ} → a ≡ readRefusal store sealing tagging r destination
+      → Unless (Legal (sealing .n)) (a ≡ 1) (Unless (loaded store (sealing .set) ≡ true) (a ≡ 15) (Unless (sealing .n ≡ 1) (a ≡ 12)
+      (Unless (Legal (tagging .n)) (a ≡ 1) (Unless (loaded store (tagging .set) ≡ true) (a ≡ 15) (Unless (tagging .n ≡ 1) (a ≡ 12)
+      (Unless (isRecord r ≡ true) (a ≡ 19) (Unless (tagged (tagUnder store tagging) (parts r) ≡ true) (a ≡ 20) (Unless (destination ≡ 16 * blocks r) (a ≡ 5) (a ≡ 0)))))))))
+  unfolding readRefusal forKeys
+  read-number e = key-number store sealing _ e (λ e. key-number store tagging _ e checks-number)
+
   pub read-taken : {a : ℕ} → a ≡ readRefusal store sealing tagging r destination → a ≡ 0 → Read-taken store sealing tagging r destination
   unfolding readRefusal
   read-taken e z =

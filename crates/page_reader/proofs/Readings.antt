@@ -105,29 +105,28 @@ module _ (store : Store) (k : WorkingKey) (one : k .n ≡ 1) (is : loaded store 
   tag-verified b h =
       let m : List ℕ → List ℕ = E (partsIn store (k .set)) (k .n) (k .words) in
       let l : length (given r) ≡ 16 = given-length r e in
-      let zero : underKey (k .n) (loaded store (k .set)) (cmacRefusal (k .n) (length (given r))) ≡ 0 =
+      let none : underKey (k .n) (loaded store (k .set)) (cmacRefusal (k .n) (length (given r))) ≡ 0 =
       under-loaded (k .n) (loaded store (k .set)) (cmacRefusal (k .n) (length (given r))) (cmac-one (k .n) (length (given r))) is
       ∙ cmac-iff (k .n) (length (given r)) .1 (one, omega arith, omega arith) in
-      ap (λ (v : Verified). v .yes) (h ∙ ap (verification m (take (length r - 17) r) (given r)) zero)
+      ap (λ (v : Verified). v .yes) (h ∙ ap (verification m (take (length r - 17) r) (given r)) none)
       ∙ ap₂ (λ (n : ℕ) (x : List ℕ). same (tag m n x) (given r)) l (sym (record-front r e b))
       ∙ ap (same (tag m 16 (front (parts r)))) (given-tag r e)
 
-  -- the sealed blocks opened
-  pub body-opened : (sealed : List ℕ) {number : ℕ} {after : List ℕ} → sealed ≡ parts r .sealed → length sealed ≡ 16 * blocks r
-      → number ≡ underKey (k .n) (loaded store (k .set)) (cbcRefusal (k .n) (length (take 16 (drop 44 r))) (length sealed) (length sealed))
-      → after ≡ outcome number (cbcOpen (U (partsIn store (k .set)) (k .n) (k .words)) (16 * k .n) (take 16 (drop 44 r)) sealed) sealed
-      → after ≡ opened store k r
+  -- the sealed blocks opened after the start block
+  pub body-opened : {start sealed : List ℕ} {number : ℕ} {after : List ℕ}
+      → number ≡ underKey (k .n) (loaded store (k .set)) (cbcRefusal (k .n) (length start) (length sealed) (length sealed))
+      → after ≡ outcome number (cbcOpen (U (partsIn store (k .set)) (k .n) (k .words)) (16 * k .n) start sealed) sealed
+      → start ≡ take 16 (drop 44 r) → sealed ≡ parts r .sealed → length sealed ≡ 16 * blocks r → after ≡ opened store k r
   unfolding opened body openUnder
-  body-opened sealed {number} s l n o =
+  body-opened {start} {sealed} {number} n o a s l =
       let m : List ℕ → List ℕ = U (partsIn store (k .set)) (k .n) (k .words) in
-      let start : List ℕ = take 16 (drop 44 r) in
       let size : 16 * k .n ≡ 16 = omega (arith, one) in
-      let long : length start ≡ 16 * k .n = length-take-le 16 (drop 44 r) (omega (arith, length-drop 44 r, record-length r e)) ∙ sym size in
+      let long : length start ≡ 16 * k .n = ap length a ∙ length-take-le 16 (drop 44 r) (omega (arith, length-drop 44 r, record-length r e)) ∙ sym size in
       let whole : length sealed % (16 * k .n) ≡ 0 = ap₂ (λ (a b : ℕ). a % b) l size ∙ omega arith in
-      let zero : number ≡ 0 =
+      let none : number ≡ 0 =
       n
       ∙ under-loaded (k .n) (loaded store (k .set)) (cbcRefusal (k .n) (length start) (length sealed) (length sealed)) (cbc-one (k .n) (length start) (length sealed) (length sealed)) is
       ∙ cbc-iff (k .n) (length start) (length sealed) (length sealed) .1 (inl one, long, whole, refl) in
-      o ∙ ap (λ (i : ℕ). outcome i (cbcOpen m (16 * k .n) start sealed) sealed) zero
+      o ∙ ap (λ (i : ℕ). outcome i (cbcOpen m (16 * k .n) start sealed) sealed) none
       ∙ ap (λ (z : ℕ). cbcOpen m z start sealed) size
-      ∙ ap₂ (cbcOpen m 16) (sym (record-start r e)) s
+      ∙ ap₂ (cbcOpen m 16) (a ∙ sym (record-start r e)) s

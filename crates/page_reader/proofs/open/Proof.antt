@@ -16,7 +16,7 @@ read-refusal-requires c κs = search needs
 open-body-requires : tie.Need-open-body-requires
 open-body-requires c κs =
     let t = read-taken _ _ _ _ _ (c .before .before .read-refusal .ensures) (c .before .if1 .taken) in
-    (t .keys .sealing-one, t .keys .sealing-loaded, t .laid, t .long)
+    search needs
 
 same-length : tie.Need-same-length
 same-length c = search needs

@@ -1,6 +1,6 @@
 -- The gathered blocks are the record's, and are opened after its start block.
 -- Assumes nothing.
-use mathlib.Core.Path.{_≡_, _∙_}
+use mathlib.Core.Path.{_≡_, refl, _∙_}
 use Prim.Native.Nat.{_≤_}
 use native.Mathlib.Omega.{arith}
 use lib.ListN.{length}
@@ -57,7 +57,7 @@ returns c =
     let s = g .before .before .before .before .before in
     let a = s .args in
     let call = c .before .before .«open» .ensures in
-    body-opened (a .store) (a .k) (s .pre .0) (s .pre .1) (a .bytes .now) (s .pre .2) (g .gather .last .1 .0) (sealed g) (g .gather .kept .1 .0 ∙ s .pre .3) (call .0) (call .1)
+    body-opened (a .store) (a .k) (s .pre .0) (s .pre .1) (a .bytes .now) (s .pre .2) (call .0) (call .1) refl (sealed g) (g .gather .kept .1 .0 ∙ s .pre .3)
 
 pub open-body-spec : {M : Type 1} → statement M
 open-body-spec =
