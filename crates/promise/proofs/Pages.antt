@@ -24,7 +24,7 @@ use Rattle.publishers.specs.Pages.{Bytes, Words, SameSet}
 use Rattle.publishers.proofs.Pages.{kept as set-kept, same-parts, expands-in}
 use Rattle.pages.specs.Pages.{Page, front, blocks, isRecord, parts, tagged, body, sealedPage, withTag}
 use Rattle.pages.proofs.Layouts.{layout-isRecord, layout-blocks, layout-parts, record-widths, record-parts, record-length, record-blocks, record-title, record-front, tagged-tag, sealedPage-widths}
-use Rattle.pages.proofs.Cuts.{record-day, record-start, record-block, record-tag, layout-front, cut-short, run-on, hidden-alike}
+use Rattle.pages.proofs.Cuts.{record-heads, record-15, record-1F, record-day, record-start, record-block, record-tag, layout-front, cut-short, run-on, hidden-alike}
 use Rattle.catalogue.specs.declared.Entry.{Entry}
 use Rattle.catalogue.specs.Catalogue.{entry, titlePart}
 use Rattle.catalogue.proofs.Catalogues.{entry-like, titlePart-like}
@@ -60,6 +60,9 @@ parts-stand r b e =
     record {
       long = record-length r e;
       most = record-blocks r e;
+      commands = record-heads r e;
+      command-15 = record-15 r e;
+      command-1F = record-1F r e;
       number = refl;
       day = record-day r e;
       title = record-title r e;

@@ -6,7 +6,7 @@ use mathlib.Core.Logic.{_↔_}
 use mathlib.Core.List.{List, [], _∷_, _++_}
 use Prim.Native.Nat.{ℕ, _+_, _-_, _*_, _/_, _%_, _^_, _≤_, _<_}
 use lib.Dec.{eqb}
-use lib.ListN.{length, take, drop}
+use lib.ListN.{length, getD, take, drop}
 use Rattle.forms.specs.Lists.{when}
 use Rattle.forms.specs.Refusals.{unless, Unless, outcome, firstOf}
 use Rattle.labyrinth.specs.declared.WorkingKey.{WorkingKey}
@@ -47,11 +47,14 @@ pub record LaidOut (r : List ℕ) : Type 0 where
 abbrev pub RecordsExactly : Type 0
 RecordsExactly = (r : List ℕ) → Bytes r → (isRecord r ≡ true) ↔ LaidOut r
 
--- where the parts stand, counted from byte 0: the title is bytes 11 to 42, block i the 16 bytes from byte 61 + 17i on, and the tag the last 16; "all bytes
+-- where the commands and the parts stand, counted from byte 0: the title is bytes 11 to 42, block i the 16 bytes from byte 61 + 17i on, and the tag the last 16; "all bytes
 -- before 1F" are all but the last 17
 pub record Places (r : List ℕ) : Type 0 where
   pub long : length r ≡ 77 + 17 * blocks r
   pub most : blocks r ≤ 4096
+  pub commands : (getD r 0 0 ≡ 0x10) × (getD r 5 0 ≡ 0x11) × (getD r 10 0 ≡ 0x12) × (getD r 43 0 ≡ 0x13)
+  pub command-15 : (i : ℕ) → i < blocks r → getD r (60 + 17 * i) 0 ≡ 0x15
+  pub command-1F : getD r (60 + 17 * blocks r) 0 ≡ 0x1F
   pub number : parts r .number ≡ fourByteNumber (take 4 (drop 1 r))
   pub day : parts r .day ≡ fourByteNumber (take 4 (drop 6 r))
   pub title : parts r .title ≡ take 32 (drop 11 r)
