@@ -118,12 +118,18 @@ module _ (s : Store) (sealing tagging : WorkingKey) (number day : ℕ) (title st
       pub read-then : Read q d
       read-then = (
         q-number ∙ first-passed refusal _ (sym e ∙ z),
-        (mid-holds,
-        (d-body,
-        (λ a b.
-        q-number ∙ written-number s sealing tagging number day title start text (taken small z) small t (there a b) (same-parts b) (length room)
-        ∙ first-passed refusal _ (sym e ∙ z),
-        λ a b.
-        d-body
-        ∙ ap (λ (x : List ℕ). outcome q x room) (written-opened s sealing tagging number day title start text (taken small z) small t (same-parts a) words hs ht))))
+        (
+          mid-holds,
+          (
+            d-body,
+            (
+              λ a b.
+                  q-number ∙ written-number s sealing tagging number day title start text (taken small z) small t (there a b) (same-parts b) (length room)
+                  ∙ first-passed refusal _ (sym e ∙ z),
+              λ a b.
+                  d-body
+                  ∙ ap (λ (x : List ℕ). outcome q x room) (written-opened s sealing tagging number day title start text (taken small z) small t (same-parts a) words hs ht),
+            ),
+          ),
+        ),
       )
