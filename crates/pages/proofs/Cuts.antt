@@ -10,10 +10,10 @@ use borrow.Author.Tests.{eqb-true, eqb-false, ltb-true, ltb-false}
 use lib.Dec.{eqb, ltb}
 use lib.ListN.{length, getD, take, drop, length-append, length-drop, List·getD-append, List·getD-eq-default}
 use lib.Seq.{getD-drop, getD-take, length-take-le, take-all, take-at, drop-drop, drop-append-add, take-append-seam}
-use Rattle.pages.specs.Pages.{Page, Widths, command, fourBytes, sealedCommands, front, layout, operand, times15, sealedOperands, behind, behind13, behind15, fourByteNumber, blocks, isRecord, parts, Shown, first, command-byte, Alike}
+use Rattle.pages.specs.Pages.{Page, Widths, command, fourBytes, sealedCommands, front, layout, begins, operand, times15, sealedOperands, behind, behind13, behind15, fourByteNumber, blocks, isRecord, parts, Shown, first, command-byte, Alike}
 use Rattle.pages.proofs.Commands.{begins-iff, by-test, times-yes, times-no, times-most, times-within, length-fourBytes}
-use Rattle.pages.proofs.Layouts.{has-layout, record-length, layout-isRecord, layout-blocks}
-use Rattle.pages.proofs.Places.{place12, place13, place15}
+use Rattle.pages.proofs.Layouts.{Layout, has-layout, record-length, layout-isRecord, layout-blocks}
+use Rattle.pages.proofs.Places.{place11, place12, place13, place15}
 
 -- ---- the command bytes from byte 60 on
 
@@ -38,6 +38,24 @@ module _ (r : List ℕ) (e : isRecord r ≡ true) where
       let k = 60 + 17 * blocks r in
       let i : k ≡ k + 0 = omega arith in
       ap (λ (j : ℕ). getD r j 0) i ∙ sym (getD-drop k r 0 0) ∙ ap (λ (x : List ℕ). getD x 0 0) (sym (place15 r)) ∙ begins-iff 0x1F 16 (behind15 r) .0 (has-layout r e .at1F) .1
+
+-- and those before them
+module _ (r : List ℕ) (e : isRecord r ≡ true) where
+  abbrev l : Layout r
+  l = has-layout r e
+
+  at : (c w k : ℕ) → begins c w (drop k r) ≡ true → getD r k 0 ≡ c
+  at c w k b =
+      let i : k ≡ k + 0 = omega arith in
+      ap (λ (j : ℕ). getD r j 0) i ∙ sym (getD-drop k r 0 0) ∙ begins-iff c w (drop k r) .0 b .1
+
+  pub record-heads : (getD r 0 0 ≡ 0x10) × (getD r 5 0 ≡ 0x11) × (getD r 10 0 ≡ 0x12) × (getD r 43 0 ≡ 0x13)
+  record-heads = (
+    at 0x10 4 0 (l .at10),
+    at 0x11 4 5 (l .at11),
+    at 0x12 32 10 (ap (begins 0x12 32) (sym (place11 r)) ∙ l .at12),
+    at 0x13 16 43 (ap (begins 0x13 16) (sym (place12 r)) ∙ l .at13),
+  )
 
 -- ---- the places of the parts
 

@@ -3,7 +3,7 @@
 use mathlib.Core.Path.{_≡_, refl, sym, ap, ap₂, subst, _∙_}
 use mathlib.Core.Bool.{Bool, true, false, false≢true}
 use mathlib.Core.Logic.{inl, inr, _↔_}
-use mathlib.Core.List.{List, []}
+use mathlib.Core.List.{List, [], _∷_, _++_}
 use Prim.Native.Nat.{ℕ, _-_, _*_, _/_, _^_, _<_}
 use native.Mathlib.Omega.{arith}
 use borrow.Author.Tests.{eq-eqb}
@@ -21,10 +21,10 @@ use Rattle.modes.specs.Cmac.{tag}
 use Rattle.sets.specs.declared.Store.{Store}
 use Rattle.sets.specs.Sets.{partsIn}
 use Rattle.publishers.specs.Pages.{Bytes, Words, SameSet}
-use Rattle.publishers.proofs.Pages.{same-parts, expands-in}
+use Rattle.publishers.proofs.Pages.{kept as set-kept, same-parts, expands-in}
 use Rattle.pages.specs.Pages.{Page, front, blocks, isRecord, parts, tagged, body, sealedPage, withTag}
 use Rattle.pages.proofs.Layouts.{layout-isRecord, layout-blocks, layout-parts, record-widths, record-parts, record-length, record-blocks, record-title, record-front, tagged-tag, sealedPage-widths}
-use Rattle.pages.proofs.Cuts.{record-day, record-start, record-block, record-tag, layout-front, cut-short, run-on, hidden-alike}
+use Rattle.pages.proofs.Cuts.{record-heads, record-15, record-1F, record-day, record-start, record-block, record-tag, layout-front, cut-short, run-on, hidden-alike}
 use Rattle.catalogue.specs.declared.Entry.{Entry}
 use Rattle.catalogue.specs.Catalogue.{entry, titlePart}
 use Rattle.catalogue.proofs.Catalogues.{entry-like, titlePart-like}
@@ -34,7 +34,7 @@ use Rattle.keyed_pages.proofs.Refusals.{lengths-number, write-taken, read-taken
 use Rattle.keyed_pages.proofs.Alike.{SameMaps, used-maps, set-maps, write-number-like, read-number-like, written-like, opened-like}
 use Rattle.keyed_pages.proofs.Trips.{handed, written-isRecord, written-parts, written-blocks, written-number, written-opened}
 use Rattle.promise.specs.Demands.{SameUsed}
-use Rattle.promise.specs.Pages.{PagesReadBack, RecordsOfTheirParts, LaidOut, RecordsExactly, PartsStand, ReadsEntry, ReadsTitle, HiddenPartsAlike, LookTheSame, OpensPage, RightTag, VerifiesThenOpens, WritesPage, WritesParts, CatalogueGets, ReaderGets, PageTravels, PageKey, PageKeys, PageKeyTaken, WritesTaken, AnswersWriting, AnswersEntry, AnswersTitle, ReadsTaken, AnswersReading, NotWhole, short, long, NotWholeRefused, WritesBySets, OpensBySets}
+use Rattle.promise.specs.Pages.{PagesReadBack, RecordsOfTheirParts, LaidOut, RecordsExactly, PartsStand, ReadsEntry, ReadsTitle, HiddenPartsAlike, LookTheSame, OpensPage, RightTag, VerifiesThenOpens, WritesPage, WritesParts, CatalogueGets, ReaderGets, PageTravels, PageKey, PageKeys, PageKeyTaken, WritesTaken, AnswersWriting, AnswersEntry, AnswersTitle, ReadsTaken, AnswersReading, RefusedByBoth, NotWholeRefused, SetsKept, WritesBySets, OpensBySets}
 use Rattle.promise.proofs.Demands.{kept}
 use Rattle.promise.proofs.Stores.{under, expands-as}
 
@@ -60,6 +60,9 @@ parts-stand r b e =
     record {
       long = record-length r e;
       most = record-blocks r e;
+      commands = record-heads r e;
+      command-15 = record-15 r e;
+      command-1F = record-1F r e;
       number = refl;
       day = record-day r e;
       title = record-title r e;
@@ -225,18 +228,16 @@ module _ (store : Store) (sealing tagging : WorkingKey) (r : List ℕ) {number :
         wrong z (inr (_, inr (_, inl x))) c = omega (arith, x .1)
         wrong z (inr (_, inr (_, inr x))) c = omega (arith, x .1)
 
+refused-by-both : (c : List ℕ) → isRecord c ≡ false → RefusedByBoth c
+refused-by-both c f = (
+  f,
+  λ answer h. h ∙ entry-no c f,
+  λ title h. h ∙ title-no c f,
+  λ store sealing tagging number before after h. other-refused store sealing tagging c before h f,
+)
+
 pub not-whole-refused : NotWholeRefused
-not-whole-refused r c e n =
-    let f = none n in (
-      f,
-      λ answer h. h ∙ entry-no c f,
-      λ title h. h ∙ title-no c f,
-      λ store sealing tagging number before after h. other-refused store sealing tagging c before h f,
-    )
-  where
-    none : {c : List ℕ} → NotWhole r c → isRecord c ≡ false
-    none (short k l) = cut-short r e k l
-    none (long x more) = run-on r e x more
+not-whole-refused r e = (λ k l. refused-by-both (take k r) (cut-short r e k l), λ x more. refused-by-both (r ++ (x ∷ more)) (run-on r e x more))
 
 -- ---- a record written
 
@@ -355,6 +356,9 @@ module _ (s t : Store) (k j m o : WorkingKey) (h : SameMaps s t k j) (g : SameMa
 
   opens-like : (r before : List ℕ) {y z : ℕ} {e f : List ℕ} → OpensPage s k m r y before e → OpensPage t j o r z before f → (y ≡ z) × (e ≡ f)
   opens-like r before = alike before (read-number-like s t k j m o h g r (length before)) (opened-like s t k j m o h g r)
+
+pub sets-kept : SetsKept
+sets-kept s cs sealing tagging e f = (set-kept (sealing .set) s cs e, set-kept (tagging .set) s cs f)
 
 pub writes-by-sets : WritesBySets
 writes-by-sets s t sealing tagging page day title start text before y z e f h a b =

@@ -6,7 +6,7 @@ use mathlib.Core.Logic.{_↔_}
 use mathlib.Core.List.{List, [], _∷_, _++_}
 use Prim.Native.Nat.{ℕ, _+_, _-_, _*_, _/_, _%_, _^_, _≤_, _<_}
 use lib.Dec.{eqb}
-use lib.ListN.{length, take, drop}
+use lib.ListN.{length, getD, take, drop}
 use Rattle.forms.specs.Lists.{when}
 use Rattle.forms.specs.Refusals.{unless, Unless, outcome, firstOf}
 use Rattle.labyrinth.specs.declared.WorkingKey.{WorkingKey}
@@ -15,6 +15,7 @@ use Rattle.labyrinth.specs.Keys.{E, U, expandedWords}
 use Rattle.labyrinth.specs.Refusals.{padded}
 use Rattle.sets.specs.declared.Store.{Store}
 use Rattle.sets.specs.Sets.{setIn, partsIn, Loaded}
+use Rattle.publishers.specs.Calls.{Call, afterAll, renewed}
 use Rattle.publishers.specs.Pages.{Bytes, Words, SameSet}
 use Rattle.modes.specs.Cbc.{cbcSeal, cbcOpen}
 use Rattle.modes.specs.Cmac.{tag}
@@ -46,11 +47,14 @@ pub record LaidOut (r : List ℕ) : Type 0 where
 abbrev pub RecordsExactly : Type 0
 RecordsExactly = (r : List ℕ) → Bytes r → (isRecord r ≡ true) ↔ LaidOut r
 
--- where the parts stand, counted from byte 0: the title is bytes 11 to 42, block i the 16 bytes from byte 61 + 17i on, and the tag the last 16; "all bytes
+-- where the commands and the parts stand, counted from byte 0: the title is bytes 11 to 42, block i the 16 bytes from byte 61 + 17i on, and the tag the last 16; "all bytes
 -- before 1F" are all but the last 17
 pub record Places (r : List ℕ) : Type 0 where
   pub long : length r ≡ 77 + 17 * blocks r
   pub most : blocks r ≤ 4096
+  pub commands : (getD r 0 0 ≡ 0x10) × (getD r 5 0 ≡ 0x11) × (getD r 10 0 ≡ 0x12) × (getD r 43 0 ≡ 0x13)
+  pub command-15 : (i : ℕ) → i < blocks r → getD r (60 + 17 * i) 0 ≡ 0x15
+  pub command-1F : getD r (60 + 17 * blocks r) 0 ≡ 0x1F
   pub number : parts r .number ≡ fourByteNumber (take 4 (drop 1 r))
   pub day : parts r .day ≡ fourByteNumber (take 4 (drop 6 r))
   pub title : parts r .title ≡ take 32 (drop 11 r)
@@ -222,18 +226,18 @@ abbrev pub AnswersReading : Store → WorkingKey → WorkingKey → List ℕ →
 AnswersReading store sealing tagging r number before after = ReadNumber store sealing tagging r (length before) number × Kept number before after
 
 -- so of a record that is cut short, or has bytes behind it, both readers say 19: it is none
-pub data NotWhole (r : List ℕ) : List ℕ → Type 0 where
-  short : (k : ℕ) → k < length r → NotWhole r (take k r)
-  long : (x : ℕ) (more : List ℕ) → NotWhole r (r ++ (x ∷ more))
-
-abbrev pub NotWholeRefused : Type 0
-NotWholeRefused =
-    (r c : List ℕ) → isRecord r ≡ true → NotWhole r c
-    → (isRecord c ≡ false)
+abbrev pub RefusedByBoth : List ℕ → Type 0
+RefusedByBoth c =
+    (isRecord c ≡ false)
     × ((answer : Entry) → ReadsEntry c answer → answer ≡ record { number = 19; page = 0; day = 0; blocks = 0 })
     × ((title : List ℕ) → ReadsTitle c title → title ≡ [])
     × ((store : Store) (sealing tagging : WorkingKey) (number : ℕ) (before after : List ℕ) → OpensPage store sealing tagging c number before after
     → PageKeys store sealing tagging number (number ≡ 19) × (after ≡ before))
+
+abbrev pub NotWholeRefused : Type 0
+NotWholeRefused =
+    (r : List ℕ) → isRecord r ≡ true
+    → ((k : ℕ) → k < length r → RefusedByBoth (take k r)) × ((x : ℕ) (more : List ℕ) → RefusedByBoth (r ++ (x ∷ more)))
 
 -- ---- documents 01 and 02 on keys and sets, of operations with two keys
 
@@ -247,6 +251,12 @@ OfUsedWordsOfBoth {A} {Z} {B} Call sealing tagging given left =
 -- sets that the keys name alike, loaded or not, whoever has taken what
 abbrev pub SetsAlike : Store → Store → WorkingKey → WorkingKey → Type 0
 SetsAlike s t sealing tagging = (setIn s (sealing .set) ≡ setIn t (sealing .set)) × (setIn s (tagging .set) ≡ setIn t (tagging .set))
+
+-- as a store is after any calls of both publishers in which neither set was loaded anew
+abbrev pub SetsKept : Type 0
+SetsKept =
+    (s : Store) (cs : List Call) (sealing tagging : WorkingKey) → renewed (sealing .set) s cs ≡ false → renewed (tagging .set) s cs ≡ false
+    → SetsAlike s (afterAll s cs) sealing tagging
 
 abbrev pub WritesBySets : Type 0
 WritesBySets =

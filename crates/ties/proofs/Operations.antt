@@ -26,12 +26,12 @@ use Rattle.publishers.specs.Pages.{Bytes, Words}
 use Rattle.rows.specs.Inverse.{Row}
 use Rattle.promise.specs.Demands.{AnswersKey, AnswersBlock, AnswersCbc, AnswersCtr, AnswersStep, AnswersTape, Steps, WorksTape, Expands, Enciphers, Deciphers, SealsCbc, OpensCbc, RunsCtr, SealedBy, OpenedBy, CountedBy, SealedByBlocks, OpenedByBlocks, CountedByBlocks, Substitutes, SubstitutesBack, Fresh, UnusedWordsZero, OfUsedWords, StepsOfUsedWords, ComesBack}
 use Rattle.promise.specs.Requests.{ExpandsFor, EnciphersIn, DeciphersIn, SealsCbcIn, OpensCbcIn, RunsCtrIn, MakesTagIn, VerifiesTagIn, AnswersKeyFor, AnswersBlockIn, AnswersCbcIn, AnswersCtrIn, AnswersTagIn, AnswersVerifyingIn, YesExactlyIn, MakesFresh, Loads, Takes, AnswersLoad, AnswersTake, AnswersUse, AnswersCall, ComesBackIn, MakesTag, VerifiesTag, AnswersTag, AnswersVerifying, YesExactly, GetsYes, TellsItsEnd, Multiplies, MixesBy, AnswersMixing, MixesAsBefore, MakesTable, AnswersTable, MakesTheTableLent, LooksUp, FindsMixed, MultipliesRows, Inverts, AnswersInverse, ConvertsWord, Judges, WrapsKey, UnwrapsKey, WrapsKeyIn, UnwrapsKeyIn, AnswersWrapping, AnswersUnwrapping, AnswersWrappingIn, AnswersUnwrappingIn, KeyComesBackIn}
-use Rattle.promise.specs.Pages.{ReadsEntry, ReadsTitle, AnswersEntry, AnswersTitle}
+use Rattle.promise.specs.Pages.{ReadsEntry, ReadsTitle, OpensPage, VerifiesThenOpens, WritesPage, AnswersEntry, AnswersTitle, AnswersWriting, AnswersReading, OfUsedWordsOfBoth}
 use Rattle.promise.proofs.Demands.{answers-key, answers-block, seals-answers, opens-answers, ctr-answers, answers-step, answers-tape, sealed-by-blocks, opened-by-blocks, counted-by-blocks, enciphers-used, deciphers-used, seals-used, opens-used, runs-used, steps-alike, cbc-calls-open, ctr-calls-open}
 use Rattle.promise.proofs.Requests.{answers-tag, answers-verifying, yes-exactly, tags-used, verifies-used, tells-its-end, answers-mixing, answers-table, one-inverse, looks-up, published-table}
 use Rattle.promise.proofs.Stores.{enciphers-at-zero, deciphers-at-zero, makes-at-zero, seals-at-zero, opens-at-zero, runs-at-zero, verifies-at-zero, expands-at-zero, both-at-zero, enciphers-answers-in, deciphers-answers-in, makes-answers-in, seals-answers-in, opens-answers-in, runs-answers-in, verifies-answers-in, yes-exactly-in, unused-words-zero-for, answers-key-for, sealed-by-in, opened-by-in, counted-by-in, answers-load, answers-take, enciphers-as, deciphers-as, makes-as, seals-as, opens-as, runs-as, verifies-as, expands-as, loads-as, takes-as}
 use Rattle.promise.proofs.Keys.{answers-wrapping, answers-unwrapping, answers-wrapping-in, answers-unwrapping-in, wraps-at-zero, unwraps-at-zero, key-back-at-zero, wraps-as, unwraps-as, wraps-used, unwraps-used}
-use Rattle.promise.proofs.Pages.{answers-entry, answers-title}
+use Rattle.promise.proofs.Pages.{answers-entry, answers-title, answers-writing, answers-reading, verifies-then-opens, writes-used, opens-used as page-opens-used}
 use Rattle.tape_rules.proofs.fresh as fresh
 use Rattle.tape.proofs.step as tape-step
 use Rattle.tape_run.proofs.run as tape-run
@@ -57,6 +57,8 @@ use Rattle.wrapped_trips.proofs.key_wrapped_and_unwrapped as key-wrapped-and-un
 use Rattle.wrapped_trips.proofs.key_unwrapped_and_wrapped as key-unwrapped-and-wrapped
 use Rattle.catalogue.proofs.catalogue as catalogue-page
 use Rattle.catalogue.proofs.title as title-of-page
+use Rattle.page_writer.proofs.write as write-page
+use Rattle.page_reader.proofs.open as open-page
 use Rattle.conversions.proofs.word_converted as word-converted
 use Rattle.rows.proofs.mix as mix-word
 use Rattle.rows.proofs.make_table as make-table
@@ -584,6 +586,42 @@ module _ (κs : Lfts 1) where
   pub title-answers : (a : _) (z : _) (e : _) → title-of-page.Reads.Learnt κs a z e → Bytes (a .0 .now) → AnswersTitle (a .0 .now) (z .now)
   title-answers a z e h b = answers-title (a .0 .now) b h
 
+-- the writer: a store, the sealing key, the tag key, number, day, title, start block, body, destination
+module _ (κs : Lfts 4) where
+  pub writes-page : (a : _) (z : _) (e : _) → write-page.Reads.Learnt κs a z e
+      → WritesPage (a .0) (a .1 .0) (a .1 .1 .0) (a .1 .1 .1 .0) (a .1 .1 .1 .1 .0) (a .1 .1 .1 .1 .1 .0 .now) (a .1 .1 .1 .1 .1 .1 .0 .now) (a .1 .1 .1 .1 .1 .1 .1 .0 .now) z
+      (a .1 .1 .1 .1 .1 .1 .1 .1 .0 .now) (e .1 .1 .1 .1 .1 .1 .1 .1 .0 .now)
+  writes-page a z e h = h
+
+  pub page-write-answers : (a : _) (z : _) (e : _) → write-page.Reads.Learnt κs a z e
+      → AnswersWriting (a .0) (a .1 .0) (a .1 .1 .0) (a .1 .1 .1 .1 .1 .0 .now) (a .1 .1 .1 .1 .1 .1 .0 .now) (a .1 .1 .1 .1 .1 .1 .1 .0 .now) z
+      (a .1 .1 .1 .1 .1 .1 .1 .1 .0 .now) (e .1 .1 .1 .1 .1 .1 .1 .1 .0 .now)
+  page-write-answers a z e h =
+      answers-writing (a .0) (a .1 .0) (a .1 .1 .0) (a .1 .1 .1 .0) (a .1 .1 .1 .1 .0) (a .1 .1 .1 .1 .1 .0 .now) (a .1 .1 .1 .1 .1 .1 .0 .now) (a .1 .1 .1 .1 .1 .1 .1 .0 .now) h
+
+  pub page-write-used : OfUsedWordsOfBoth {G = Store × ℕ × ℕ × (ℕ × ℕ × List ℕ × List ℕ × List ℕ × List ℕ)} (write-page.Reads.Learnt κs) (λ a. a .1 .0) (λ a. a .1 .1 .0)
+      (λ a. (a .0, a .1 .0 .set, a .1 .1 .0 .set, (a .1 .1 .1 .0, a .1 .1 .1 .1 .0, a .1 .1 .1 .1 .1 .0 .now, a .1 .1 .1 .1 .1 .1 .0 .now, a .1 .1 .1 .1 .1 .1 .1 .0 .now, a .1 .1 .1 .1 .1 .1 .1 .1 .0 .now)))
+      (λ e. e .1 .1 .1 .1 .1 .1 .1 .1 .0 .now)
+  page-write-used a b y z e f h g s u p = writes-used (a .0) (b .0) (a .1 .0) (b .1 .0) (a .1 .1 .0) (b .1 .1 .0) _ _ s u p h g
+
+-- the keyed reader: a store, the sealing key, the tag key, the record, destination
+module _ (κs : Lfts 2) where
+  pub opens-page : (a : _) (z : _) (e : _) → open-page.Reads.Learnt κs a z e
+      → OpensPage (a .0) (a .1 .0) (a .1 .1 .0) (a .1 .1 .1 .0 .now) z (a .1 .1 .1 .1 .0 .now) (e .1 .1 .1 .1 .0 .now)
+  opens-page a z e h = h
+
+  pub page-open-answers : (a : _) (z : _) (e : _) → open-page.Reads.Learnt κs a z e → Bytes (a .1 .1 .1 .0 .now)
+      → AnswersReading (a .0) (a .1 .0) (a .1 .1 .0) (a .1 .1 .1 .0 .now) z (a .1 .1 .1 .1 .0 .now) (e .1 .1 .1 .1 .0 .now)
+  page-open-answers a z e h b = answers-reading (a .0) (a .1 .0) (a .1 .1 .0) (a .1 .1 .1 .0 .now) (a .1 .1 .1 .1 .0 .now) h b
+
+  pub page-verified : (a : _) (z : _) (e : _) → open-page.Reads.Learnt κs a z e → Bytes (a .1 .1 .1 .0 .now)
+      → VerifiesThenOpens (a .0) (a .1 .0) (a .1 .1 .0) (a .1 .1 .1 .0 .now) z (a .1 .1 .1 .1 .0 .now) (e .1 .1 .1 .1 .0 .now)
+  page-verified a z e h b = verifies-then-opens (a .0) (a .1 .0) (a .1 .1 .0) (a .1 .1 .1 .0 .now) (a .1 .1 .1 .1 .0 .now) h b
+
+  pub page-open-used : OfUsedWordsOfBoth {G = Store × ℕ × ℕ × (List ℕ × List ℕ)} (open-page.Reads.Learnt κs) (λ a. a .1 .0) (λ a. a .1 .1 .0)
+      (λ a. (a .0, a .1 .0 .set, a .1 .1 .0 .set, (a .1 .1 .1 .0 .now, a .1 .1 .1 .1 .0 .now))) (λ e. e .1 .1 .1 .1 .0 .now)
+  page-open-used a b y z e f h g s u p = page-opens-used (a .0) (b .0) (a .1 .0) (b .1 .0) (a .1 .1 .0) (b .1 .1 .0) _ _ s u p h g
+
 -- ---- every function named here meets its contract
 
 module _ {M : Type 1} where
@@ -694,3 +732,9 @@ module _ {M : Type 1} where
 
   pub title-met : title-of-page.Statement.statement M
   title-met = title-of-page.Met.met
+
+  pub write-page-met : write-page.Statement.statement M
+  write-page-met = write-page.Met.met
+
+  pub open-page-met : open-page.Statement.statement M
+  open-page-met = open-page.Met.met
