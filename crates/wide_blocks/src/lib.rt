@@ -113,7 +113,7 @@ fn word_in(s: &[u8; 2056], x: u64, k: u64, turn: usize) -> u64
     ensures { λ r. ⌜ r ≡ rotl (spacedSub (now (s .entry)) (plus x k)) turn ⌝ }
 {
     arithmetic::rotate_left(
-        group_transforms::substitute(s, std::num::wrapping_add_u64(x, k)),
+        spacing::substitute(s, std::num::wrapping_add_u64(x, k)),
         turn,
     )
 }
@@ -123,10 +123,7 @@ fn word_out(u: &[u8; 2056], x: u64, k: u64, turn: usize) -> u64
     requires { ⌜ turn < 64 ⌝ }
     ensures { λ r. ⌜ r ≡ minus (spacedSub (now (u .entry)) (rotl x turn)) k ⌝ }
 {
-    difference(
-        group_transforms::substitute(u, arithmetic::rotate_left(x, turn)),
-        k,
-    )
+    difference(spacing::substitute(u, arithmetic::rotate_left(x, turn)), k)
 }
 
 // IMix.

@@ -9,8 +9,8 @@ use Rattle.forms.specs.Lists.{xorSum}
 use Rattle.forms.specs.Words.{byte, join}
 use Rattle.forms.proofs.Xor.{xors}
 use Rattle.labyrinth.specs.Groups.{spacedSub}
-use Rattle.group_transforms.proofs.substitute.Statement.{statement}
-use Rattle.group_transforms.proofs.substitute.Tie as tie
+use Rattle.spacing.proofs.substitute.Statement.{statement}
+use Rattle.spacing.proofs.substitute.Tie as tie
 
 sorted : (a b c d e f g h : ℕ) → bitXor (bitXor (bitXor (bitXor a b) c) d) (bitXor (bitXor (bitXor e f) g) h) ≡ bitXor (bitXor (bitXor (bitXor (bitXor (bitXor (bitXor (bitXor 0 a) b) c) d) e) f) g) h
 sorted a b c d e f g h = simp xors

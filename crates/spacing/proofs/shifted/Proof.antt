@@ -8,8 +8,8 @@ use borrow.Author.Needs.{needs}
 use Rattle.forms.specs.Words.{join}
 use Rattle.forms.proofs.Words.{byte-is-lt}
 use Rattle.buffers.proofs.Words.{word-at}
-use Rattle.group_transforms.proofs.shifted.Statement.{statement}
-use Rattle.group_transforms.proofs.shifted.Tie as tie
+use Rattle.spacing.proofs.shifted.Statement.{statement}
+use Rattle.spacing.proofs.shifted.Tie as tie
 
 place-requires : tie.Need-place-requires
 place-requires c κs = search needs

@@ -3,8 +3,8 @@
 use mathlib.Core.Path.{refl}
 use borrow.Author.Needs.{needs}
 use Rattle.forms.specs.Words.{byte}
-use Rattle.group_transforms.proofs.place.Statement.{statement}
-use Rattle.group_transforms.proofs.place.Tie as tie
+use Rattle.spacing.proofs.place.Statement.{statement}
+use Rattle.spacing.proofs.place.Tie as tie
 
 mul-result : tie.Need-mul-result
 mul-result c = search needs

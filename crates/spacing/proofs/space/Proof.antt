@@ -5,9 +5,9 @@ use Prim.Native.Nat.{_-_, _≤_, _<_}
 use native.Mathlib.Omega.{arith}
 use borrow.Author.Needs.{needs}
 use Rattle.forms.proofs.Bytes.{Bytes}
-use Rattle.group_transforms.proofs.Spacing.{Spacing, spacing-none, spacing-more, spacing-all}
-use Rattle.group_transforms.proofs.space.Statement.{statement}
-use Rattle.group_transforms.proofs.space.Tie as tie
+use Rattle.spacing.proofs.Spacing.{Spacing, spacing-none, spacing-more, spacing-all}
+use Rattle.spacing.proofs.space.Statement.{statement}
+use Rattle.spacing.proofs.space.Tie as tie
 
 abbrev Inv-loop : tie.InvT-loop
 Inv-loop s d₀ i₀ d i = (i ≤ 256) × Spacing s i d × (0 < i → Bytes s)
