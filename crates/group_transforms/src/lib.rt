@@ -3,7 +3,7 @@
 // The words are keyed in a text for each n: with n as an argument the compiler would make a function of its own, called for every group.
 use labyrinth::Halves;
 ghost use mathlib.Core.Path.{_≡_};
-ghost use Prim.Native.Nat.{_+_, _-_, _*_, _/_, _%_, _^_, _≤_, _<_};
+ghost use Prim.Native.Nat.{_+_, _-_, _*_, _/_, _%_, _≤_, _<_};
 ghost use lib.ListN.{getD};
 ghost use Rattle.forms.specs.Lists.{tabulate};
 ghost use Rattle.forms.specs.Words.{rotl};

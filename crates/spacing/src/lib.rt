@@ -1,6 +1,6 @@
 // Substitutions spaced out, so that a word is substituted by eight loads and seven XORs.
 ghost use mathlib.Core.Path.{_≡_};
-ghost use Prim.Native.Nat.{ℕ, _+_, _-_, _*_, _%_, _^_, _<_};
+ghost use Prim.Native.Nat.{ℕ, _+_, _-_, _*_, _^_, _<_};
 ghost use lib.ListN.{getD, length, replicate};
 ghost use Rattle.forms.specs.Words.{byte, join};
 ghost use Rattle.labyrinth.specs.Groups.{spacedSub};

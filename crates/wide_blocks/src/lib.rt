@@ -87,7 +87,7 @@ fn round_2(t: &[u64; 2048], c: &[u64; 4], ks: &[u64; 80], at: usize, x: [u64; 4]
 fn rounds_2(t: &[u64; 2048], ks: &[u64; 80], x: [u64; 4]) -> [u64; 4]
     ensures { λ r. ⌜ r ≡ inMemory 2 (iterations (lookupFour (now (t .entry))) 2 (λ i. half 2 (now (ks .entry)) (i + 2)) 16) x ⌝ }
 {
-    let c = tables::constants();
+    let c = published::constants();
     let mut y = x;
     let mut at = 4usize;
     while at < 36 {
