@@ -12,11 +12,11 @@ use lib.ListN.{length, take, drop, length-drop}
 use lib.Seq.{drop-drop}
 use Rattle.forms.specs.Lists.{when}
 use Rattle.forms.specs.Refusals.{Unless}
-use Rattle.forms.proofs.Booleans.{and-both}
+use Rattle.forms.proofs.Booleans.{and-both, by-test}
 use Rattle.catalogue.specs.declared.Entry.{Entry}
 use Rattle.pages.specs.Pages.{begins, fourByteNumber, times15, behind10, behind11, behind12, behind13, blocks, behind15, headed, ended, isRecord, parts, Alike}
 use Rattle.catalogue.specs.Catalogue.{entry, titlePart}
-use Rattle.pages.proofs.Commands.{begins-iff, by-test, times-most, times-yes, times-no}
+use Rattle.pages.proofs.Commands.{begins-iff, times-most, times-yes, times-no}
 use Rattle.pages.proofs.Layouts.{record-title, record-length}
 use Rattle.pages.proofs.Places.{place11, place12, place13, place15, isRecord-like, blocks-like, title-like, day-like, part-like}
 

@@ -10,6 +10,7 @@ use borrow.Author.Tests.{eq-eqb}
 use lib.Dec.{eqb}
 use lib.ListN.{length, take, drop, length-drop}
 use lib.Seq.{take-all, take-at, length-take-le}
+use Rattle.forms.proofs.Booleans.{by-test}
 use Rattle.forms.specs.Strings.{same}
 use Rattle.forms.specs.Refusals.{unless, outcome}
 use Rattle.forms.proofs.Bytes.{Bytes}
@@ -26,7 +27,7 @@ use Rattle.modes.proofs.Refusals.{cbc-iff, cbc-one, cmac-iff, cmac-one}
 use Rattle.cmac.specs.declared.Verified.{Verified}
 use Rattle.cmac.specs.Verification.{verification}
 use Rattle.pages.specs.Pages.{sealedCommands, sealedOperands, behind13, front, blocks, isRecord, parts, tagged, body}
-use Rattle.pages.proofs.Commands.{by-test, times-within, length-sealedCommands, length-sealedOperands, operands-commands, commands-operands}
+use Rattle.pages.proofs.Commands.{times-within, length-sealedCommands, length-sealedOperands, operands-commands, commands-operands}
 use Rattle.pages.proofs.Layouts.{record-length, record-front}
 use Rattle.pages.proofs.Places.{place13}
 use Rattle.pages.proofs.Cuts.{record-start, record-tag}

@@ -10,8 +10,9 @@ use borrow.Author.Tests.{eqb-true, eqb-false, ltb-true, ltb-false}
 use lib.Dec.{eqb, ltb}
 use lib.ListN.{length, getD, take, drop, length-append, length-drop, List·getD-append, List·getD-eq-default}
 use lib.Seq.{getD-drop, getD-take, length-take-le, take-all, take-at, drop-drop, drop-append-add, take-append-seam}
+use Rattle.forms.proofs.Booleans.{by-test}
 use Rattle.pages.specs.Pages.{Page, Widths, command, fourBytes, sealedCommands, front, layout, begins, operand, times15, sealedOperands, behind, behind13, behind15, fourByteNumber, blocks, isRecord, parts, Shown, first, command-byte, Alike}
-use Rattle.pages.proofs.Commands.{begins-iff, by-test, times-yes, times-no, times-most, times-within, length-fourBytes}
+use Rattle.pages.proofs.Commands.{begins-iff, times-yes, times-no, times-most, times-within, length-fourBytes}
 use Rattle.pages.proofs.Layouts.{Layout, has-layout, record-length, layout-isRecord, layout-blocks}
 use Rattle.pages.proofs.Places.{place11, place12, place13, place15}
 
