@@ -21,12 +21,14 @@ use Rattle.modes.proofs.Refusals.{cbc-one, ctr-one, wrap-one, unwrap-one}
 use Rattle.sets.specs.declared.Store.{Store}
 use Rattle.sets.specs.Sets.{partsIn, loaded}
 use Rattle.sets.proofs.Sets.{parts-zero}
+use Rattle.keyed_pages.specs.Keyed.{written}
+use Rattle.keyed_pages.specs.Refusals.{writeRefusal, readRefusal}
 use Rattle.publishers.specs.Calls.{loads, takes, expands as use-expands, enciphers, deciphers, seals, opens, counts, tags, verifies, wraps, unwraps, key, buffer, verdict}
 use Rattle.publishers.specs.Pages.{Bytes, Words}
 use Rattle.rows.specs.Inverse.{Row}
 use Rattle.promise.specs.Demands.{AnswersKey, AnswersBlock, AnswersCbc, AnswersCtr, AnswersStep, AnswersTape, Steps, WorksTape, Expands, Enciphers, Deciphers, SealsCbc, OpensCbc, RunsCtr, SealedBy, OpenedBy, CountedBy, SealedByBlocks, OpenedByBlocks, CountedByBlocks, Substitutes, SubstitutesBack, Fresh, UnusedWordsZero, OfUsedWords, StepsOfUsedWords, ComesBack}
 use Rattle.promise.specs.Requests.{ExpandsFor, EnciphersIn, DeciphersIn, SealsCbcIn, OpensCbcIn, RunsCtrIn, MakesTagIn, VerifiesTagIn, AnswersKeyFor, AnswersBlockIn, AnswersCbcIn, AnswersCtrIn, AnswersTagIn, AnswersVerifyingIn, YesExactlyIn, MakesFresh, Loads, Takes, AnswersLoad, AnswersTake, AnswersUse, AnswersCall, ComesBackIn, MakesTag, VerifiesTag, AnswersTag, AnswersVerifying, YesExactly, GetsYes, TellsItsEnd, Multiplies, MixesBy, AnswersMixing, MixesAsBefore, MakesTable, AnswersTable, MakesTheTableLent, LooksUp, FindsMixed, MultipliesRows, Inverts, AnswersInverse, ConvertsWord, Judges, WrapsKey, UnwrapsKey, WrapsKeyIn, UnwrapsKeyIn, AnswersWrapping, AnswersUnwrapping, AnswersWrappingIn, AnswersUnwrappingIn, KeyComesBackIn}
-use Rattle.promise.specs.Pages.{ReadsEntry, ReadsTitle, OpensPage, VerifiesThenOpens, WritesPage, AnswersEntry, AnswersTitle, AnswersWriting, AnswersReading, OfUsedWordsOfBoth}
+use Rattle.promise.specs.Pages.{ReadsEntry, ReadsTitle, OpensPage, VerifiesThenOpens, WritesPage, AnswersEntry, AnswersTitle, AnswersWriting, AnswersReading, CataloguesWritten, TitlesWritten, PageComesBackIn, OfUsedWordsOfBoth}
 use Rattle.promise.proofs.Demands.{answers-key, answers-block, seals-answers, opens-answers, ctr-answers, answers-step, answers-tape, sealed-by-blocks, opened-by-blocks, counted-by-blocks, enciphers-used, deciphers-used, seals-used, opens-used, runs-used, steps-alike, cbc-calls-open, ctr-calls-open}
 use Rattle.promise.proofs.Requests.{answers-tag, answers-verifying, yes-exactly, tags-used, verifies-used, tells-its-end, answers-mixing, answers-table, one-inverse, looks-up, published-table}
 use Rattle.promise.proofs.Stores.{enciphers-at-zero, deciphers-at-zero, makes-at-zero, seals-at-zero, opens-at-zero, runs-at-zero, verifies-at-zero, expands-at-zero, both-at-zero, enciphers-answers-in, deciphers-answers-in, makes-answers-in, seals-answers-in, opens-answers-in, runs-answers-in, verifies-answers-in, yes-exactly-in, unused-words-zero-for, answers-key-for, sealed-by-in, opened-by-in, counted-by-in, answers-load, answers-take, enciphers-as, deciphers-as, makes-as, seals-as, opens-as, runs-as, verifies-as, expands-as, loads-as, takes-as}
@@ -59,6 +61,9 @@ use Rattle.catalogue.proofs.catalogue as catalogue-page
 use Rattle.catalogue.proofs.title as title-of-page
 use Rattle.page_writer.proofs.write as write-page
 use Rattle.page_reader.proofs.open as open-page
+use Rattle.page_trips.proofs.written_and_catalogued as written-and-catalogued
+use Rattle.page_trips.proofs.written_and_titled as written-and-titled
+use Rattle.page_trips.proofs.written_and_opened as written-and-opened
 use Rattle.conversions.proofs.word_converted as word-converted
 use Rattle.rows.proofs.mix as mix-word
 use Rattle.rows.proofs.make_table as make-table
@@ -622,6 +627,32 @@ module _ (κs : Lfts 2) where
       (λ a. (a .0, a .1 .0 .set, a .1 .1 .0 .set, (a .1 .1 .1 .0 .now, a .1 .1 .1 .1 .0 .now))) (λ e. e .1 .1 .1 .1 .0 .now)
   page-open-used a b y z e f h g s u p = page-opens-used (a .0) (b .0) (a .1 .0) (b .1 .0) (a .1 .1 .0) (b .1 .1 .0) _ _ s u p h g
 
+-- functions that write a record and read it
+module _ (κs : Lfts 4) where
+  pub written-catalogued : (a : _) (z : _) (e : _) → written-and-catalogued.Reads.Learnt κs a z e
+      → let text = a .1 .1 .1 .1 .1 .1 .1 .0 .now in
+      CataloguesWritten (writeRefusal (a .0) (a .1 .0) (a .1 .1 .0) (length (a .1 .1 .1 .1 .1 .0 .now)) (length (a .1 .1 .1 .1 .1 .1 .0 .now)) (length text) (length (a .1 .1 .1 .1 .1 .1 .1 .1 .0 .now)))
+      (a .1 .1 .1 .0) (a .1 .1 .1 .1 .0) text z
+  written-catalogued a z e h = h .0
+
+  pub written-titled : (a : _) (z : _) (e : _) → written-and-titled.Reads.Learnt κs a z e
+      → TitlesWritten (writeRefusal (a .0) (a .1 .0) (a .1 .1 .0) (length (a .1 .1 .1 .1 .1 .0 .now)) (length (a .1 .1 .1 .1 .1 .1 .0 .now)) (length (a .1 .1 .1 .1 .1 .1 .1 .0 .now)) (length (a .1 .1 .1 .1 .1 .1 .1 .1 .0 .now))) z
+  written-titled a z e h = (λ t. eqb-true _ 0 (sym (h .0) ∙ t), λ o. h .0 ∙ eq-eqb _ 0 o)
+
+module _ (κs : Lfts 5) where
+  pub page-comes-back-in : (a : _) (z : _) (e : _) → written-and-opened.Reads.Learnt κs a z e
+      → let sealing = a .1 .1 .0 in
+      let tagging = a .1 .1 .1 .0 in
+      let title = a .1 .1 .1 .1 .1 .1 .0 .now in
+      let start = a .1 .1 .1 .1 .1 .1 .1 .0 .now in
+      let text = a .1 .1 .1 .1 .1 .1 .1 .1 .0 .now in
+      let room = a .1 .1 .1 .1 .1 .1 .1 .1 .1 .1 .0 .now in
+      PageComesBackIn (a .0) (a .1 .0) sealing tagging
+      (writeRefusal (a .0) sealing tagging (length title) (length start) (length text) (length (a .1 .1 .1 .1 .1 .1 .1 .1 .1 .0 .now)))
+      (readRefusal (a .1 .0) sealing tagging (written (a .0) sealing tagging (a .1 .1 .1 .1 .0) (a .1 .1 .1 .1 .1 .0) title start text) (length room))
+      text z room (e .1 .1 .1 .1 .1 .1 .1 .1 .1 .1 .0 .now)
+  page-comes-back-in a z e h = (h .0, λ s t. (h .1 .1 .1 .0 s t, h .1 .1 .1 .1 s t))
+
 -- ---- every function named here meets its contract
 
 module _ {M : Type 1} where
@@ -738,3 +769,12 @@ module _ {M : Type 1} where
 
   pub open-page-met : open-page.Statement.statement M
   open-page-met = open-page.Met.met
+
+  pub written-and-catalogued-met : written-and-catalogued.Statement.statement M
+  written-and-catalogued-met = written-and-catalogued.Met.met
+
+  pub written-and-titled-met : written-and-titled.Statement.statement M
+  written-and-titled-met = written-and-titled.Met.met
+
+  pub written-and-opened-met : written-and-opened.Statement.statement M
+  written-and-opened-met = written-and-opened.Met.met
