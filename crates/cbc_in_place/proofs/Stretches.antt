@@ -5,7 +5,7 @@ use mathlib.Core.List.{List, [], _++_}
 use Prim.Native.Nat.{ℕ, zero, suc, _+_, _-_, _*_, _/_, _%_, _≤_, _<_, min}
 use native.Mathlib.Nat.{zero-mul, suc-mul, zero-div, sub-zero}
 use native.Mathlib.Omega.{arith, min-cases}
-use lib.ListN.{length, take, drop, length-drop, take-append-drop, drop-of-length-le}
+use lib.ListN.{length, take, drop, length-drop, take-append-drop}
 use lib.Seq.{take-all, take-at, drop-append-le, drop-drop}
 use Rattle.forms.specs.Strings.{block}
 use Rattle.forms.specs.Refusals.{outcome}

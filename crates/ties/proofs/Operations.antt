@@ -26,10 +26,12 @@ use Rattle.publishers.specs.Pages.{Bytes, Words}
 use Rattle.rows.specs.Inverse.{Row}
 use Rattle.promise.specs.Demands.{AnswersKey, AnswersBlock, AnswersCbc, AnswersCtr, AnswersStep, AnswersTape, Steps, WorksTape, Expands, Enciphers, Deciphers, SealsCbc, OpensCbc, RunsCtr, SealedBy, OpenedBy, CountedBy, SealedByBlocks, OpenedByBlocks, CountedByBlocks, Substitutes, SubstitutesBack, Fresh, UnusedWordsZero, OfUsedWords, StepsOfUsedWords, ComesBack}
 use Rattle.promise.specs.Requests.{ExpandsFor, EnciphersIn, DeciphersIn, SealsCbcIn, OpensCbcIn, RunsCtrIn, MakesTagIn, VerifiesTagIn, AnswersKeyFor, AnswersBlockIn, AnswersCbcIn, AnswersCtrIn, AnswersTagIn, AnswersVerifyingIn, YesExactlyIn, MakesFresh, Loads, Takes, AnswersLoad, AnswersTake, AnswersUse, AnswersCall, ComesBackIn, MakesTag, VerifiesTag, AnswersTag, AnswersVerifying, YesExactly, GetsYes, TellsItsEnd, Multiplies, MixesBy, AnswersMixing, MixesAsBefore, MakesTable, AnswersTable, MakesTheTableLent, LooksUp, FindsMixed, MultipliesRows, Inverts, AnswersInverse, ConvertsWord, Judges, WrapsKey, UnwrapsKey, WrapsKeyIn, UnwrapsKeyIn, AnswersWrapping, AnswersUnwrapping, AnswersWrappingIn, AnswersUnwrappingIn, KeyComesBackIn}
+use Rattle.promise.specs.Pages.{ReadsEntry, ReadsTitle, AnswersEntry, AnswersTitle}
 use Rattle.promise.proofs.Demands.{answers-key, answers-block, seals-answers, opens-answers, ctr-answers, answers-step, answers-tape, sealed-by-blocks, opened-by-blocks, counted-by-blocks, enciphers-used, deciphers-used, seals-used, opens-used, runs-used, steps-alike, cbc-calls-open, ctr-calls-open}
 use Rattle.promise.proofs.Requests.{answers-tag, answers-verifying, yes-exactly, tags-used, verifies-used, tells-its-end, answers-mixing, answers-table, one-inverse, looks-up, published-table}
 use Rattle.promise.proofs.Stores.{enciphers-at-zero, deciphers-at-zero, makes-at-zero, seals-at-zero, opens-at-zero, runs-at-zero, verifies-at-zero, expands-at-zero, both-at-zero, enciphers-answers-in, deciphers-answers-in, makes-answers-in, seals-answers-in, opens-answers-in, runs-answers-in, verifies-answers-in, yes-exactly-in, unused-words-zero-for, answers-key-for, sealed-by-in, opened-by-in, counted-by-in, answers-load, answers-take, enciphers-as, deciphers-as, makes-as, seals-as, opens-as, runs-as, verifies-as, expands-as, loads-as, takes-as}
 use Rattle.promise.proofs.Keys.{answers-wrapping, answers-unwrapping, answers-wrapping-in, answers-unwrapping-in, wraps-at-zero, unwraps-at-zero, key-back-at-zero, wraps-as, unwraps-as, wraps-used, unwraps-used}
+use Rattle.promise.proofs.Pages.{answers-entry, answers-title}
 use Rattle.tape_rules.proofs.fresh as fresh
 use Rattle.tape.proofs.step as tape-step
 use Rattle.tape_run.proofs.run as tape-run
@@ -53,6 +55,8 @@ use Rattle.round_trips.proofs.cbc_there_and_back as cbc-there-and-back
 use Rattle.round_trips.proofs.ctr_there_and_back as ctr-there-and-back
 use Rattle.wrapped_trips.proofs.key_wrapped_and_unwrapped as key-wrapped-and-unwrapped
 use Rattle.wrapped_trips.proofs.key_unwrapped_and_wrapped as key-unwrapped-and-wrapped
+use Rattle.catalogue.proofs.catalogue as catalogue-page
+use Rattle.catalogue.proofs.title as title-of-page
 use Rattle.conversions.proofs.word_converted as word-converted
 use Rattle.rows.proofs.mix as mix-word
 use Rattle.rows.proofs.make_table as make-table
@@ -564,6 +568,22 @@ module _ (κs : Lfts 3) where
       subst (λ (p : Parts). ComesBack (unwrapRefusal (k .n) (length source) mid (authentic (U p (k .n) (k .words)) source)) (wrapRefusal (k .n) mid (length room)) source z room (e .1 .1 .1 .1 .1 .0 .now)) (parts-zero (a .0) (k .set) o)
       (both-at-zero (a .0) (a .1 .0) k source room o (unwrap-one (k .n) (length source) mid _) (wrap-one (k .n) mid (length room)) (sent-comes-back-in a z e h))
 
+-- ---- document 02, Job 9
+
+-- the catalogue reader
+module _ (κs : Lfts 1) where
+  pub reads-entry : (a : _) (z : _) (e : _) → catalogue-page.Reads.Learnt κs a z e → ReadsEntry (a .0 .now) z
+  reads-entry a z e h = h
+
+  pub entry-answers : (a : _) (z : _) (e : _) → catalogue-page.Reads.Learnt κs a z e → Bytes (a .0 .now) → AnswersEntry (a .0 .now) z
+  entry-answers a z e h b = answers-entry (a .0 .now) b h
+
+  pub reads-title : (a : _) (z : _) (e : _) → title-of-page.Reads.Learnt κs a z e → ReadsTitle (a .0 .now) (z .now)
+  reads-title a z e h = h
+
+  pub title-answers : (a : _) (z : _) (e : _) → title-of-page.Reads.Learnt κs a z e → Bytes (a .0 .now) → AnswersTitle (a .0 .now) (z .now)
+  title-answers a z e h b = answers-title (a .0 .now) b h
+
 -- ---- every function named here meets its contract
 
 module _ {M : Type 1} where
@@ -668,3 +688,9 @@ module _ {M : Type 1} where
 
   pub key-unwrapped-and-wrapped-met : key-unwrapped-and-wrapped.Statement.statement M
   key-unwrapped-and-wrapped-met = key-unwrapped-and-wrapped.Met.met
+
+  pub catalogue-met : catalogue-page.Statement.statement M
+  catalogue-met = catalogue-page.Met.met
+
+  pub title-met : title-of-page.Statement.statement M
+  title-met = title-of-page.Met.met
