@@ -5,8 +5,8 @@ ghost use lib.ListN.{length};
 ghost use Rattle.forms.specs.Refusals.{outcome};
 ghost use Rattle.records.specs.Records.{keyIn, storeIn};
 ghost use Rattle.catalogue.specs.Catalogue.{entry};
-ghost use Rattle.keyed_pages.specs.Keyed.{written};
-ghost use Rattle.keyed_pages.specs.Refusals.{writeRefusal};
+ghost use Rattle.keyed_pages.specs.Keyed.{written, opened};
+ghost use Rattle.keyed_pages.specs.Refusals.{writeRefusal, readRefusal};
 ghost use Rattle.pages_c.specs.LentPages.{lentKeysNumber, titleAt};
 
 // Writes a page's record.
@@ -68,4 +68,28 @@ pub extern "C" fn labyrinth_page_catalogue(
     *blocks = e.blocks as u64;
     *place = title_place(e.number);
     e.number
+}
+
+// Verifies a page's record, and opens its body.
+#[no_mangle]
+pub extern "C" fn labyrinth_page_open(
+    store: &[u8],
+    sealing: &[u8],
+    tagging: &[u8],
+    bytes: &[u8],
+    dst: &mut [u8],
+) -> u8
+    ensures number { λ r. ⌜ r ≡ lentKeysNumber (now (store .entry)) (now (sealing .entry)) (now (tagging .entry)) (readRefusal (storeIn (now (store .entry))) (keyIn (now (sealing .entry))) (keyIn (now (tagging .entry))) (now (bytes .entry)) (length (now (dst .entry)))) ⌝ }
+    ensures body { λ r. ⌜ now (dst .exit) ≡ outcome r (opened (storeIn (now (store .entry))) (keyIn (now (sealing .entry))) (now (bytes .entry))) (now (dst .entry)) ⌝ }
+{
+    if !records::fit(store.len(), sealing.len()) {
+        return 4;
+    }
+    if !records::fit(store.len(), tagging.len()) {
+        return 4;
+    }
+    let s = store_records::store_of(store);
+    let k = key_records::key_of(sealing);
+    let t = key_records::key_of(tagging);
+    page_reader::open(s, k, t, bytes, dst)
 }
