@@ -102,5 +102,5 @@ class Records:
     def right(self, sealing, tagging, page):
         return self.tag(sealing, tagging, page) == page.tag
 
-    def opened(self, sealing, page):
+    def opened(self, sealing, tagging, page):
         return modes.cbc_decrypt(sealing, page.start, page.sealed)

@@ -100,7 +100,7 @@ def expected(request, rules=RIGHT):
         page = rules.parts(*given)
         blocks = None if page is None else len(page.sealed) // 16
         number = rules.reading(*keys, blocks, lambda: rules.right(*made(), page), len(destination))
-        answer = None if number else rules.opened(made()[0], page)
+        answer = None if number else rules.opened(*made(), page)
     return f"{number} {(destination if number else answer).hex() or '-'}"
 
 
@@ -465,7 +465,7 @@ def wrong_rules():
     yield "the tag of the sealed blocks alone", rule("U", tag=lambda self, sealing, tagging, page: modes.cmac(tagging, page.sealed))
     yield "the tag by the sealing key", rule("V", tag=lambda self, sealing, tagging, page: modes.cmac(sealing, self.front(page)))
     yield "sealed by the tag key", rule("W", seal=lambda self, sealing, tagging, start, body: modes.cbc_encrypt(tagging, start, body))
-    yield "each block after the start block", rule("X", opened=lambda self, sealing, page: b"".join(modes.cbc_decrypt(sealing, page.start, page.sealed[at : at + 16]) for at in range(0, len(page.sealed), 16)))
+    yield "each block after the start block", rule("X", opened=lambda self, sealing, tagging, page: b"".join(modes.cbc_decrypt(sealing, page.start, page.sealed[at : at + 16]) for at in range(0, len(page.sealed), 16)))
     yield "half of the tag is compared", rule("Y", right=lambda self, sealing, tagging, page: self.tag(sealing, tagging, page)[:8] == page.tag[:8])
     yield "bytes behind the tag are passed over", rule("Z", parts=lambda self, record: Records.parts(self, record) or Records.parts(self, record[:-1]))
     yield "day before number", rule("a", head=((0x11, 4), (0x10, 4), (0x12, 32), (0x13, 16)))
@@ -569,7 +569,7 @@ def read_back(requests, answers):
             continue
         page, keys = RIGHT.parts(record), ciphers(store, sealing, tagging)
         listed = (0, number, day, len(body) // 16, 11)
-        if page is None or RIGHT.catalogue(record) != listed or record[11:43] != title or not RIGHT.right(*keys, page) or RIGHT.opened(keys[0], page) != body:
+        if page is None or RIGHT.catalogue(record) != listed or record[11:43] != title or not RIGHT.right(*keys, page) or RIGHT.opened(*keys, page) != body:
             wrong.append(f"a record of {len(body) // 16} blocks, number {number}, that the library wrote is not read back")
     return count, wrong
 
