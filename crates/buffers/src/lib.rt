@@ -1,4 +1,4 @@
-// The bytes of a word, and words in a buffer of bytes, the least byte first. A caller that is inside the buffer pays nothing for the
+// Words in a buffer of bytes, the least byte first. A caller that is inside the buffer pays nothing for the
 // test: the compiler sees that it holds.
 ghost use mathlib.Core.Path.{_≡_};
 ghost use mathlib.Core.List.{_++_};
@@ -7,16 +7,6 @@ ghost use lib.ListN.{length, getD, take, drop};
 ghost use Rattle.forms.specs.Lists.{tabulate};
 ghost use Rattle.forms.specs.Words.{byte, join};
 ghost use Rattle.buffers.specs.Words.{inside, wordAt, withWord};
-
-// Byte i of a word; past its eight bytes, 0.
-pub fn byte_at(w: u64, i: usize) -> u8
-    ensures { λ r. ⌜ r ≡ byte w i ⌝ }
-{
-    if 8 <= i {
-        return 0;
-    }
-    ((w >> (8 * i)) % 256) as u8
-}
 
 // A byte as a word.
 fn wide(b: u8) -> u64
@@ -51,14 +41,14 @@ fn store_inside(d: &mut [u8], at: usize, w: u64)
     requires { ⌜ at + 8 ≤ length (now d) ⌝ }
     ensures { λ _. ⌜ now (d .exit) ≡ take at (now (d .entry)) ++ (tabulate 8 (byte w) ++ drop (at + 8) (now (d .entry))) ⌝ }
 {
-    d[at] = byte_at(w, 0);
-    d[at + 1] = byte_at(w, 1);
-    d[at + 2] = byte_at(w, 2);
-    d[at + 3] = byte_at(w, 3);
-    d[at + 4] = byte_at(w, 4);
-    d[at + 5] = byte_at(w, 5);
-    d[at + 6] = byte_at(w, 6);
-    d[at + 7] = byte_at(w, 7);
+    d[at] = word_bytes::byte_at(w, 0);
+    d[at + 1] = word_bytes::byte_at(w, 1);
+    d[at + 2] = word_bytes::byte_at(w, 2);
+    d[at + 3] = word_bytes::byte_at(w, 3);
+    d[at + 4] = word_bytes::byte_at(w, 4);
+    d[at + 5] = word_bytes::byte_at(w, 5);
+    d[at + 6] = word_bytes::byte_at(w, 6);
+    d[at + 7] = word_bytes::byte_at(w, 7);
 }
 
 // The word at a place; 0 if it has no room there.

@@ -193,8 +193,8 @@ fn linked(
     if eight_tables::pays(src.len() / 2) {
         let mut eight = eight_tables::zeros();
         eight_tables::fill(t, &mut eight);
-        let there = group_transforms::spaced(s);
-        let back = group_transforms::spaced(u);
+        let there = spacing::spaced(s);
+        let back = spacing::spaced(u);
         by_wide_links(&eight, &there, &back, n, ks, keep, c, src, dst);
     } else {
         by_links(t, s, u, n, ks, keep, c, src, dst);

@@ -13,7 +13,7 @@ fn print_tables(b: u8) {
     printing::byte(tables::substitute_inverse(b));
     let merged = tables::merged_table();
     printing::word(merged[b as usize]);
-    let m = rows::mix(tables::row(), b as u64);
+    let m = rows::mix(published::row(), b as u64);
     printing::word(m.word);
 }
 

@@ -22,7 +22,7 @@ fn next_last(c: &mut [u8], k: u8) -> u8
     if k == 255 {
         let last = c.len() - 1;
         c[last] = 255;
-        strings::add_into(c, 1);
+        numbers::add_into(c, 1);
         return 0;
     }
     k + 1
@@ -138,7 +138,7 @@ fn ctr_run(
 {
     let size = start.len();
     let mut counter = strings::block_copy(start);
-    strings::add_into(&mut counter[..size], q);
+    numbers::add_into(&mut counter[..size], q);
     from_counter(t, s, u, n, ks, &mut counter[..size], src, dst);
 }
 

@@ -169,7 +169,7 @@ fn expand_by(t: &[u64; 256], n: usize, l: usize, set: usize, key: &[u8]) -> Expa
 pub fn expand_published(n: usize, l: usize, key: &[u8]) -> Expanded
     ensures { λ r. ⌜ r ≡ expansion (article .SM) 0 n l (now (key .entry)) (expandRefusal n l (length (now (key .entry)))) ⌝ }
 {
-    let number = labyrinth::expand_refusal(n, l, key.len());
+    let number = cipher_refusals::expand_refusal(n, l, key.len());
     if number != 0 {
         return refused(number);
     }
@@ -185,8 +185,8 @@ pub fn expand(store: Store, n: usize, l: usize, set: usize, key: &[u8]) -> Expan
     if set == 0 {
         return expand_published(n, l, key);
     }
-    let own = labyrinth::expand_refusal(n, l, key.len());
-    let number = labyrinth::under_length(n, l, sets::is_loaded(store, set), own);
+    let own = cipher_refusals::expand_refusal(n, l, key.len());
+    let number = cipher_refusals::under_length(n, l, sets::is_loaded(store, set), own);
     if number != 0 {
         return refused(number);
     }

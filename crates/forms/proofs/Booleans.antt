@@ -83,7 +83,15 @@ pub false-unless : (b : Bool) → (b ≡ true → ⊥) → b ≡ false
 false-unless true h = absurd (h refl)
 false-unless false h = refl
 
+-- either way a test goes
+pub by-test : {A : Type 0} (b : Bool) → (b ≡ true → A) → (b ≡ false → A) → A
+by-test true f g = f refl
+by-test false f g = g refl
+
 -- ---- what tests say in plain terms
+
+pub leb-iff : (a b : ℕ) → (leb a b ≡ true) ↔ (a ≤ b)
+leb-iff a b = (leb-true a b, le-leb a b)
 
 pub ltb-iff : (a b : ℕ) → (ltb a b ≡ true) ↔ (a < b)
 ltb-iff a b = (ltb-true a b, lt-ltb a b)

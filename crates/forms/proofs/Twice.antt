@@ -23,6 +23,11 @@ pub first-zero : (a b : ℕ) → firstOf a b ≡ 0 → (a ≡ 0) × (b ≡ 0)
 first-zero zero b e = (refl, first-passed 0 b refl ∙ e)
 first-zero (suc a) b e = let h : suc a ≡ 0 → ⊥ = λ z. omega arith in absurd (h (first-refused (suc a) b h ∙ e))
 
+-- a second number that matters only where the first is 0
+pub first-cong : (a : ℕ) {b c : ℕ} → (a ≡ 0 → b ≡ c) → firstOf a b ≡ firstOf a c
+first-cong zero h = sym (first-passed 0 _ refl) ∙ h refl ∙ first-passed 0 _ refl
+first-cong (suc a) h = sym (first-refused (suc a) _ (λ z. omega arith)) ∙ first-refused (suc a) _ (λ z. omega arith)
+
 -- in plain terms: the first number unless it is 0, then the second
 pub first-plain : (a b : ℕ) {r : ℕ} → r ≡ firstOf a b → Unless (a ≡ 0) (r ≡ a) (r ≡ b)
 unfolding firstOf

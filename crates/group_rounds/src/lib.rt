@@ -112,7 +112,7 @@ fn round_2(
 pub fn rounds_2(t: &[u64; 2048], ks: &[u64; 80], h: Halves) -> Halves
     ensures { λ r. ⌜ r ≡ besides 2 (iterations (lookupIn true (now (t .entry))) 2 (λ i. half 2 (now (ks .entry)) (i + 2)) 16) h ⌝ }
 {
-    let c = tables::constants();
+    let c = published::constants();
     let mut l = h.high;
     let mut r = h.low;
     let mut at = 4usize;
@@ -151,7 +151,7 @@ fn round_4(
 pub fn rounds_4(t: &[u64; 2048], ks: &[u64; 80], h: Halves) -> Halves
     ensures { λ r. ⌜ r ≡ besides 4 (iterations (lookupIn true (now (t .entry))) 4 (λ i. half 4 (now (ks .entry)) (i + 2)) 16) h ⌝ }
 {
-    let c = tables::constants();
+    let c = published::constants();
     let mut l = h.high;
     let mut r = h.low;
     let mut at = 8usize;

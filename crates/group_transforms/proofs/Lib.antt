@@ -1,2 +1,1 @@
-pub mod Spacing
 pub mod Ends

@@ -1,67 +1,18 @@
-// The two ends of the cipher for a group of blocks side by side: IT of eight words, and FT to them, by substitutions that are spaced out,
-// so that a word is substituted by eight loads and seven XORs.
+// The two ends of the cipher for a group of blocks side by side: IT of eight words, and FT to them, by substitutions that are spaced out.
 //
 // The words are keyed in a text for each n: with n as an argument the compiler would make a function of its own, called for every group.
 use labyrinth::Halves;
 ghost use mathlib.Core.Path.{_≡_};
-ghost use Prim.Native.Nat.{ℕ, _+_, _-_, _*_, _/_, _%_, _^_, _≤_, _<_};
-ghost use lib.ListN.{getD, length, replicate};
+ghost use Prim.Native.Nat.{_+_, _-_, _*_, _/_, _%_, _≤_, _<_};
+ghost use lib.ListN.{getD};
 ghost use Rattle.forms.specs.Lists.{tabulate};
-ghost use Rattle.forms.specs.Words.{byte, join, rotl};
+ghost use Rattle.forms.specs.Words.{rotl};
 ghost use Rattle.labyrinth.specs.Blocks.{plus, minus, each};
 ghost use Rattle.labyrinth.specs.Cipher.{IMix};
 ghost use Rattle.labyrinth.specs.Cipher as spec;
 ghost use Rattle.labyrinth.specs.Keys.{half};
 ghost use Rattle.labyrinth.specs.Working.{Size, both};
 ghost use Rattle.labyrinth.specs.Groups.{blockOf, besides, apart, joined, spacedSub, enterBy, leaveBy};
-ghost use Rattle.labyrinth.specs.Groups.{spaced as spacedOut};
-
-// Puts byte x of s at place 8x + 7.
-fn space(s: &[u8], d: &mut [u8; 2056])
-    requires { ⌜ (length (now s) ≡ 256) × (now d ≡ replicate 2056 0) ⌝ }
-    ensures table { λ _. ⌜ now (d .exit) ≡ spacedOut (now (s .entry)) ⌝ }
-    ensures bytes { λ _. ⌜ ((i : ℕ) → getD (now (s .entry)) i 0 < 2 ^ 8) ⌝ }
-{
-    let mut i = 0usize;
-    while i < 256 {
-        d[8 * i + 7] = s[i];
-        i += 1;
-    }
-}
-
-// A substitution spaced out.
-pub fn spaced(s: &[u8; 256]) -> [u8; 2056]
-    ensures table { λ r. ⌜ r ≡ spacedOut (now (s .entry)) ⌝ }
-    ensures bytes { λ r. ⌜ ((i : ℕ) → getD (now (s .entry)) i 0 < 2 ^ 8) ⌝ }
-{
-    let mut d = [0u8; 2056];
-    space(s, &mut d);
-    d
-}
-
-// Byte k of a word, as a place in a table.
-fn place(w: u64, k: usize) -> usize
-    requires { ⌜ k < 8 ⌝ }
-    ensures { λ r. ⌜ r ≡ byte w k ⌝ }
-{
-    ((w >> (8 * k)) % 256) as usize
-}
-
-// The word that a spaced substitution has for byte k of a word.
-fn shifted(s: &[u8; 2056], w: u64, k: usize) -> u64
-    requires { ⌜ k < 8 ⌝ }
-    ensures { λ r. ⌜ r ≡ join 8 (λ b. getD (now (s .entry)) (8 * byte w k + 7 - k + b) 0) ⌝ }
-{
-    buffers::load_word(s, 8 * place(w, k) + 7 - k)
-}
-
-// All eight together: the word substituted.
-pub fn substitute(s: &[u8; 2056], w: u64) -> u64
-    ensures { λ r. ⌜ r ≡ spacedSub (now (s .entry)) w ⌝ }
-{
-    (shifted(s, w, 0) ^ shifted(s, w, 1) ^ shifted(s, w, 2) ^ shifted(s, w, 3))
-        ^ (shifted(s, w, 4) ^ shifted(s, w, 5) ^ shifted(s, w, 6) ^ shifted(s, w, 7))
-}
 
 // ---- IMix
 
@@ -125,7 +76,7 @@ fn keyed_1(s: &[u8; 2056], ks: &[u64; 80], x: [u64; 8]) -> [u64; 8]
     let mut y = [0u64; 8];
     let mut i = 0usize;
     while i < 8 {
-        y[i] = substitute(s, std::num::wrapping_add_u64(x[i], ks[i % 2]));
+        y[i] = spacing::substitute(s, std::num::wrapping_add_u64(x[i], ks[i % 2]));
         i += 1;
     }
     y
@@ -137,7 +88,7 @@ fn keyed_2(s: &[u8; 2056], ks: &[u64; 80], x: [u64; 8]) -> [u64; 8]
     let mut y = [0u64; 8];
     let mut i = 0usize;
     while i < 8 {
-        y[i] = substitute(s, std::num::wrapping_add_u64(x[i], ks[i % 4]));
+        y[i] = spacing::substitute(s, std::num::wrapping_add_u64(x[i], ks[i % 4]));
         i += 1;
     }
     y
@@ -149,7 +100,7 @@ fn keyed_4(s: &[u8; 2056], ks: &[u64; 80], x: [u64; 8]) -> [u64; 8]
     let mut y = [0u64; 8];
     let mut i = 0usize;
     while i < 8 {
-        y[i] = substitute(s, std::num::wrapping_add_u64(x[i], ks[i % 8]));
+        y[i] = spacing::substitute(s, std::num::wrapping_add_u64(x[i], ks[i % 8]));
         i += 1;
     }
     y
@@ -212,7 +163,7 @@ fn unkeyed_1(u: &[u8; 2056], ks: &[u64; 80], x: [u64; 8]) -> [u64; 8]
     let mut y = [0u64; 8];
     let mut i = 0usize;
     while i < 8 {
-        y[i] = difference(substitute(u, x[i]), ks[18 + i % 2]);
+        y[i] = difference(spacing::substitute(u, x[i]), ks[18 + i % 2]);
         i += 1;
     }
     y
@@ -224,7 +175,7 @@ fn unkeyed_2(u: &[u8; 2056], ks: &[u64; 80], x: [u64; 8]) -> [u64; 8]
     let mut y = [0u64; 8];
     let mut i = 0usize;
     while i < 8 {
-        y[i] = difference(substitute(u, x[i]), ks[36 + i % 4]);
+        y[i] = difference(spacing::substitute(u, x[i]), ks[36 + i % 4]);
         i += 1;
     }
     y
@@ -236,7 +187,7 @@ fn unkeyed_4(u: &[u8; 2056], ks: &[u64; 80], x: [u64; 8]) -> [u64; 8]
     let mut y = [0u64; 8];
     let mut i = 0usize;
     while i < 8 {
-        y[i] = difference(substitute(u, x[i]), ks[72 + i % 8]);
+        y[i] = difference(spacing::substitute(u, x[i]), ks[72 + i % 8]);
         i += 1;
     }
     y

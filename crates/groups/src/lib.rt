@@ -212,7 +212,7 @@ pub fn map_groups(
     }
     let mut eight = eight_tables::zeros();
     eight_tables::fill(t, &mut eight);
-    let there = group_transforms::spaced(s);
-    let back = group_transforms::spaced(u);
+    let there = spacing::spaced(s);
+    let back = spacing::spaced(u);
     each_group(&eight, &there, &back, n, ks, own, src, mask, dst);
 }

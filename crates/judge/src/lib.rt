@@ -6,7 +6,7 @@
 ghost use mathlib.Core.Path.{_≡_};
 ghost use Prim.Native.Nat.{ℕ, _≤_, _<_};
 ghost use Rattle.field.specs.Mixing.{dot, mixBy};
-ghost use Rattle.judge.specs.Judge.{activeBytes, Judged};
+ghost use Rattle.judge.specs.Judge.{Judged};
 ghost use Rattle.judge.specs.Elimination.{combined, cleared, Pivot, Restricted, sixteen, Left, Found};
 
 // ---- rows
@@ -94,7 +94,7 @@ fn word_left(a: [[u8; 8]; 8]) -> u64
     while i < 8 {
         let p = pivot(a[i]);
         if p < 8 {
-            return mixing::mix_by(a, 1u64 << (8 * p));
+            return matrices::mix_by(a, 1u64 << (8 * p));
         }
         i += 1;
     }
@@ -131,25 +131,10 @@ pub struct Verdict {
 pub fn judge(g: [u8; 8]) -> Verdict
     ensures { λ r. ⌜ Judged g r ⌝ }
 {
-    let every = mixing::matrix([1, 0, 0, 0, 0, 0, 0, 0]);
-    let w = search(mixing::matrix(g), every, 8, 16);
+    let every = matrices::matrix([1, 0, 0, 0, 0, 0, 0, 0]);
+    let w = search(matrices::matrix(g), every, 8, 16);
     Verdict {
         yes: w == 0,
         word: w,
     }
-}
-
-// How many of a word's bytes are not zero.
-pub fn active_bytes(w: u64) -> u32
-    ensures { λ r. ⌜ r ≡ activeBytes w ⌝ }
-{
-    let mut n = 0u32;
-    let mut k = 0usize;
-    while k < 8 {
-        if buffers::byte_at(w, k) != 0 {
-            n += 1;
-        }
-        k += 1;
-    }
-    n
 }

@@ -21,8 +21,8 @@ fn print_count(name: &[u8], n: u64) {
 
 // The word that falls short, and its counts.
 fn print_word(g: [u8; 8], w: u64) {
-    let before = judge::active_bytes(w) as u64;
-    let after = judge::active_bytes(mixing::mix_row(g, w)) as u64;
+    let before = counts::active_bytes(w) as u64;
+    let after = counts::active_bytes(row_mixing::mix_row(g, w)) as u64;
     io::write_all(STDOUT_FILENO, b" no ");
     io::print_hex(STDOUT_FILENO, w, 16);
     print_count(b" before ", before);
@@ -61,14 +61,14 @@ fn digit(b: u8) -> u8 {
 // The row whose digits a word has, g_0 highest.
 fn row_of_digits(w: u64) -> [u8; 8] {
     [
-        buffers::byte_at(w, 7),
-        buffers::byte_at(w, 6),
-        buffers::byte_at(w, 5),
-        buffers::byte_at(w, 4),
-        buffers::byte_at(w, 3),
-        buffers::byte_at(w, 2),
-        buffers::byte_at(w, 1),
-        buffers::byte_at(w, 0),
+        word_bytes::byte_at(w, 7),
+        word_bytes::byte_at(w, 6),
+        word_bytes::byte_at(w, 5),
+        word_bytes::byte_at(w, 4),
+        word_bytes::byte_at(w, 3),
+        word_bytes::byte_at(w, 2),
+        word_bytes::byte_at(w, 1),
+        word_bytes::byte_at(w, 0),
     ]
 }
 

@@ -86,7 +86,7 @@ pub fn wrap_lent(
     ensures number { λ r. ⌜ r ≡ wrapRefusal n (length (now (src .entry))) (length (now (dst .entry))) ⌝ }
     ensures key { λ r. ⌜ now (dst .exit) ≡ outcome r (wrapped (lent n (now (t .entry)) (now (s .entry)) (now (u .entry)) (now (ks .entry))) (now (src .entry))) (now (dst .entry)) ⌝ }
 {
-    let number = run_refusals::wrap_refusal(n, src.len(), dst.len());
+    let number = wrap_refusals::wrap_refusal(n, src.len(), dst.len());
     if number != 0 {
         return number;
     }
@@ -107,7 +107,7 @@ pub fn unwrap_lent(
     ensures number { λ r. ⌜ r ≡ unwrapRefusal n (length (now (src .entry))) (length (now (dst .entry))) (authentic (lent n (now (t .entry)) (now (s .entry)) (now (u .entry)) (now (ks .entry))) (now (src .entry))) ⌝ }
     ensures key { λ r. ⌜ now (dst .exit) ≡ outcome r (unwrapped (lent n (now (t .entry)) (now (s .entry)) (now (u .entry)) (now (ks .entry))) (now (src .entry))) (now (dst .entry)) ⌝ }
 {
-    let number = run_refusals::unwrap_refusal(n, src.len(), dst.len());
+    let number = wrap_refusals::unwrap_refusal(n, src.len(), dst.len());
     if number != 0 {
         return number;
     }

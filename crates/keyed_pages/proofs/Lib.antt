@@ -1,1 +1,3 @@
 pub mod Refusals
+pub mod Trips
+pub mod Alike

@@ -6,11 +6,10 @@ use mathlib.Core.Logic.{_↔_}
 use mathlib.Core.List.{List}
 use Prim.Native.Nat.{ℕ, _+_, _*_, _/_, _%_, _≤_}
 use native.Mathlib.Omega.{arith}
-use borrow.Author.Tests.{leb-true, le-leb}
 use lib.Dec.{eqb, leb}
 use Rattle.forms.specs.Refusals.{unless, Unless}
 use Rattle.forms.proofs.Refusals.{unless-zero, unless-plain, unless-three, unless-four}
-use Rattle.forms.proofs.Booleans.{eqb-iff, and-iff}
+use Rattle.forms.proofs.Booleans.{eqb-iff, leb-iff, and-iff}
 use Rattle.labyrinth.specs.declared.WorkingKey.{WorkingKey}
 use Rattle.labyrinth.specs.Refusals.{legal, Legal, underKey}
 use Rattle.labyrinth.proofs.Refusals.{legal-iff}
@@ -23,7 +22,7 @@ use Rattle.keyed_pages.specs.Refusals.{forKey, forKeys, writeLengths, wr
 -- 0 to 4,096 whole blocks
 pub body-iff : (k : ℕ) → ((eqb (k % 16) 0 && leb (k / 16) 4096) ≡ true) ↔ ((k % 16 ≡ 0) × (k ≤ 65536))
 body-iff k =
-    let h = and-iff (eqb (k % 16) 0) (leb (k / 16) 4096) (eqb-iff (k % 16) 0) (leb-true (k / 16) 4096, le-leb (k / 16) 4096) in
+    let h = and-iff (eqb (k % 16) 0) (leb (k / 16) 4096) (eqb-iff (k % 16) 0) (leb-iff (k / 16) 4096) in
     (λ e. let a = h .0 e in (a .0, omega (arith, a .0, a .1)), λ a. h .1 (a .0, omega (arith, a .1)))
 
 -- ---- the keys
@@ -146,6 +145,14 @@ module _ (store : Store) (sealing tagging : WorkingKey) (r : List ℕ) (destinat
       unless-plain (isRecord r) 19 _ e (λ t. t, λ t. t) (λ e.
       unless-plain (tagged (tagUnder store tagging) (parts r)) 20 _ e (λ t. t, λ t. t) (λ e.
       unless-plain (eqb destination (16 * blocks r)) 5 _ e (eqb-iff destination (16 * blocks r)) (λ e. e)))
+
+  -- the whole order: both keys before them
+  pub read-number : {a : ℕ} → a ≡ readRefusal store sealing tagging r destination
+      → Unless (Legal (sealing .n)) (a ≡ 1) (Unless (loaded store (sealing .set) ≡ true) (a ≡ 15) (Unless (sealing .n ≡ 1) (a ≡ 12)
+      (Unless (Legal (tagging .n)) (a ≡ 1) (Unless (loaded store (tagging .set) ≡ true) (a ≡ 15) (Unless (tagging .n ≡ 1) (a ≡ 12)
+      (Unless (isRecord r ≡ true) (a ≡ 19) (Unless (tagged (tagUnder store tagging) (parts r) ≡ true) (a ≡ 20) (Unless (destination ≡ 16 * blocks r) (a ≡ 5) (a ≡ 0)))))))))
+  unfolding readRefusal forKeys
+  read-number e = key-number store sealing _ e (λ e. key-number store tagging _ e checks-number)
 
   pub read-taken : {a : ℕ} → a ≡ readRefusal store sealing tagging r destination → a ≡ 0 → Read-taken store sealing tagging r destination
   unfolding readRefusal

@@ -1,7 +1,7 @@
-// The records of the cipher, the exchange of the halves, and the refusals. Its definitions stand in specs/, its laws in proofs/.
+// The records of the cipher, the exchange of the halves, whether n is legal, and the refusal of every working key. Its definitions stand in specs/, its laws in proofs/.
 
 ghost use mathlib.Core.Path.{_≡_};
-ghost use Rattle.labyrinth.specs.Refusals.{legal, legalLength, blockRefusal, expandRefusal, underKey, underLength};
+ghost use Rattle.labyrinth.specs.Refusals.{legal, underKey};
 
 // A working key: half-block k_j, j = 0 to 7, is words jn to jn + n - 1, and it names its set of tables. One made by hand is
 // taken too; its n and its set are never adjusted.
@@ -48,51 +48,6 @@ pub fn is_legal(n: usize) -> bool
     n == 4
 }
 
-// Whether l is 2, 3 or 4.
-fn is_legal_length(l: usize) -> bool
-    ensures { λ r. ⌜ r ≡ legalLength l ⌝ }
-{
-    if l == 2 {
-        return true;
-    }
-    if l == 3 {
-        return true;
-    }
-    l == 4
-}
-
-// The number of a block operation, by n and the lengths of the source and the destination.
-pub fn block_refusal(n: usize, source: usize, destination: usize) -> u8
-    ensures { λ r. ⌜ r ≡ blockRefusal n source destination ⌝ }
-{
-    if !is_legal(n) {
-        return 1;
-    }
-    if source != 16 * n {
-        return 4;
-    }
-    if destination != 16 * n {
-        return 5;
-    }
-    0
-}
-
-// The number of an expansion, by n, l and the length of the key. No product is made before n and l are known to be small.
-pub fn expand_refusal(n: usize, l: usize, key: usize) -> u8
-    ensures { λ r. ⌜ r ≡ expandRefusal n l key ⌝ }
-{
-    if !is_legal(n) {
-        return 1;
-    }
-    if !is_legal_length(l) {
-        return 2;
-    }
-    if key != 8 * (n * l) {
-        return 3;
-    }
-    0
-}
-
 // The number of an operation under a working key, by n, whether the set that the key names is loaded, and the operation's own number: 15
 // comes right after 1.
 pub fn under_key(n: usize, loaded: bool, number: u8) -> u8
@@ -100,22 +55,6 @@ pub fn under_key(n: usize, loaded: bool, number: u8) -> u8
 {
     if !is_legal(n) {
         return 1;
-    }
-    if !loaded {
-        return 15;
-    }
-    number
-}
-
-// The number of an expansion for a set: 15 comes right after 2.
-pub fn under_length(n: usize, l: usize, loaded: bool, number: u8) -> u8
-    ensures { λ r. ⌜ r ≡ underLength n l loaded number ⌝ }
-{
-    if !is_legal(n) {
-        return 1;
-    }
-    if !is_legal_length(l) {
-        return 2;
     }
     if !loaded {
         return 15;

@@ -8,7 +8,7 @@ fn next_mask(x: [u8; 16]) -> [u8; 16]
     ensures { λ r. ⌜ r ≡ doubled x ⌝ }
 {
     let mut r = x;
-    strings::double_into(&mut r);
+    numbers::double_into(&mut r);
     if 128 <= x[0] {
         r[15] = r[15] ^ 0x87;
     }

@@ -23,7 +23,7 @@ fn apply_matrix(
     ensures number { λ r. ⌜ r ≡ blockRefusal n (length (now (src .entry))) (length (now (dst .entry))) ⌝ }
     ensures block { λ r. ⌜ now (dst .exit) ≡ outcome r (lineBytes (matrixParts (now (s .entry)) (now (u .entry)) m) n (now (ks .entry)) (now (src .entry))) (now (dst .entry)) ⌝ }
 {
-    let number = labyrinth::block_refusal(n, src.len(), dst.len());
+    let number = cipher_refusals::block_refusal(n, src.len(), dst.len());
     if number != 0 {
         return number;
     }
@@ -38,9 +38,9 @@ fn by_published(k: WorkingKey, back: bool, src: &[u8], dst: &mut [u8]) -> u8
     ensures block { λ r. ⌜ now (dst .exit) ≡ outcome r (way article back (k .n) (k .words) (now (src .entry))) (now (dst .entry)) ⌝ }
 {
     let n = k.n;
-    let m = mixing::matrix(tables::row());
-    let s = tables::sbox();
-    let u = tables::sbox_inverse();
+    let m = matrices::matrix(published::row());
+    let s = published::sbox();
+    let u = published::sbox_inverse();
     let ks = schedule::schedule(k, back);
     apply_matrix(m, &s, &u, n, &ks, src, dst)
 }
@@ -62,8 +62,8 @@ fn by_matrix(store: Store, k: WorkingKey, back: bool, src: &[u8], dst: &mut [u8]
     let v = sets::set_in(store, k.set);
     let s = v.substitution;
     let g = v.row;
-    let m = mixing::matrix(g);
-    let u = sets::inverse(&s);
+    let m = matrices::matrix(g);
+    let u = substitutions::inverse(&s);
     let keys = schedule::schedule(k, back);
     apply_matrix(m, &s, &u, n, &keys, src, dst)
 }

@@ -24,7 +24,7 @@ fn perm_word(n: usize, x: &[u64; 4], ks: &[u64; 80], at: usize, j: usize) -> u64
     while b < 8 {
         let i = (j + b) % n;
         let y = std::num::wrapping_add_u64(x[i], ks[at + i]);
-        let v = buffers::byte_at(y, b) as u64;
+        let v = word_bytes::byte_at(y, b) as u64;
         r = (v << (8 * b)) | r;
         b += 1;
     }
@@ -44,11 +44,11 @@ fn round(
     requires { ⌜ Size n × (at + n ≤ 80) × (length (now l) ≡ 4) × (length (now r) ≡ 4) ⌝ }
     ensures { λ _. ⌜ both (now (l .exit)) (now (r .exit)) ≡ onBlock n (once (λ w. mixBy m (eachByte (sub (now (s .entry))) w)) n (wordsFrom n at (now (ks .entry)))) (both (now (l .entry)) (now (r .entry))) ⌝ }
 {
-    let c = tables::constants();
+    let c = published::constants();
     let x = *r;
     let mut j = 0usize;
     while j < n {
-        let w = mixing::mix_by(m, mixing::substitute_bytes(s, perm_word(n, &x, ks, at, j)));
+        let w = matrices::mix_by(m, mixing::substitute_bytes(s, perm_word(n, &x, ks, at, j)));
         let v = (l[j] ^ c[j]) ^ w;
         l[j] = r[j];
         r[j] = v;

@@ -11,7 +11,7 @@ pub fn mix_bytes(b: &[u8; 8]) -> [u8; 8]
     ensures { λ r. ⌜ r ≡ bytes 1 (each 1 (mix row) (words 1 (now (b .entry)))) ⌝ }
 {
     let mut r = [0u8; 8];
-    let m = rows::mix(tables::row(), buffers::load_word(b, 0));
+    let m = rows::mix(published::row(), buffers::load_word(b, 0));
     buffers::store_word(&mut r, 0, m.word);
     r
 }

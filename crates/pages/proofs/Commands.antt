@@ -16,7 +16,7 @@ use Rattle.forms.specs.Words.{byte, join}
 use Rattle.forms.proofs.Lists.{length-tabulate, getD-tabulate}
 use Rattle.forms.proofs.Words.{join-cong, join-byte, join-lt, byte-join}
 use Rattle.forms.proofs.Bytes.{Bytes}
-use Rattle.forms.proofs.Booleans.{and-both}
+use Rattle.forms.proofs.Booleans.{and-both, by-test}
 use Rattle.pages.specs.Pages.{command, fourBytes, sealedCommands, begins, operand, behind, fourByteNumber, times15, sealedOperands}
 
 -- ---- one command
@@ -28,10 +28,6 @@ begins-iff c w bytes = (
   λ e. let h = and-both (ltb w (length bytes)) (eqb (getD bytes 0 0) c) e in (ltb-true w (length bytes) (h .0), eqb-true (getD bytes 0 0) c (h .1)),
   λ h. rw (lt-ltb w (length bytes) (h .0), eq-eqb (getD bytes 0 0) c (h .1)),
 )
-
-pub by-test : {A : Type 0} (b : Bool) → (b ≡ true → A) → (b ≡ false → A) → A
-by-test true f g = f refl
-by-test false f g = g refl
 
 pub begins-other : (c w : ℕ) (bytes : List ℕ) → (getD bytes 0 0 ≡ c → ⊥) → begins c w bytes ≡ false
 begins-other c w bytes h = by-test (begins c w bytes) (λ e. absurd (h (begins-iff c w bytes .0 e .1))) (λ e. e)

@@ -237,6 +237,11 @@ module _ (r : List ℕ) (e : isRecord r ≡ true) where
       let k : length (front p) ≡ length r - 17 = omega (arith, ap length e, length-append (front p) (command 0x1F (p .tag))) in
       sym (take-at (front p) (command 0x1F (p .tag)) (length r - 17) k) ∙ ap (take (length r - 17)) e
 
+-- the record of a page whose parts have their widths has the length that its blocks make
+pub layout-length : (p : Page) → Widths p → length (layout p) ≡ recordLength (length (p .sealed) / 16)
+unfolding recordLength
+layout-length p w = record-length (layout p) (layout-isRecord p w) ∙ ap (λ (k : ℕ). 77 + 17 * k) (layout-blocks p w)
+
 -- ---- sealed and tagged
 
 module _ (tag : List ℕ → List ℕ) (p : Page) where

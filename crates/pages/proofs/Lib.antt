@@ -1,2 +1,4 @@
 pub mod Commands
 pub mod Layouts
+pub mod Places
+pub mod Cuts

@@ -3,3 +3,4 @@ pub mod Demands
 pub mod Requests
 pub mod Stores
 pub mod Keys
+pub mod Pages

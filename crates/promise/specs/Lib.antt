@@ -1,3 +1,4 @@
 pub mod Values
 pub mod Demands
 pub mod Requests
+pub mod Pages

@@ -54,7 +54,7 @@ pub fn mix(g: [u8; 8], w: u64) -> Mixed
     }
     Mixed {
         number: 0,
-        word: mixing::mix_row(g, w),
+        word: row_mixing::mix_row(g, w),
     }
 }
 
@@ -63,7 +63,7 @@ fn fill(g: [u8; 8], s: &[u8; 256], table: &mut [u64])
     requires { ⌜ length (now table) ≡ 256 ⌝ }
     ensures { λ _. ⌜ now (table .exit) ≡ merged g (now (s .entry)) ⌝ }
 {
-    let row = mixing::mix_row(g, 1);
+    let row = row_mixing::mix_row(g, 1);
     let mut b = 0usize;
     while b < 256 {
         table[b] = arithmetic::times_each(row, s[b]);
@@ -92,7 +92,7 @@ pub fn make_table(g: [u8; 8], table: &mut [u64]) -> u8
     if table.len() != 256 {
         return 5;
     }
-    let s = tables::sbox();
+    let s = published::sbox();
     fill(g, &s, table);
     0
 }
@@ -112,7 +112,7 @@ pub fn row_of(w: u64) -> [u8; 8]
 pub fn product(g: [u8; 8], h: [u8; 8]) -> [u8; 8]
     ensures { λ r. ⌜ r ≡ spec.product g h ⌝ }
 {
-    row_of(mixing::mix_row(h, buffers::load_word(&g, 0)))
+    row_of(row_mixing::mix_row(h, buffers::load_word(&g, 0)))
 }
 
 // A row to the power n, as a word: as often mixed, from the row 01 and seven 00.
@@ -122,7 +122,7 @@ fn power(g: [u8; 8], n: usize) -> u64
     let mut w = 1u64;
     let mut k = 0usize;
     while k < n {
-        w = mixing::mix_row(g, w);
+        w = row_mixing::mix_row(g, w);
         k += 1;
     }
     w

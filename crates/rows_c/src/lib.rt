@@ -13,7 +13,7 @@ ghost use Rattle.one_shot.specs.OneShot.{rowNumber, productNumber, inverseNumbe
 pub extern "C" fn labyrinth_mix(word: u64) -> u64
     ensures { λ r. ⌜ r ≡ mix row word ⌝ }
 {
-    let m = rows::mix(tables::row(), word);
+    let m = rows::mix(published::row(), word);
     m.word
 }
 

@@ -2,12 +2,9 @@
 // published one, whatever stands at its place. Whether another is loaded goes by what it holds, and no table is kept beside it, so a store
 // made by hand can't lie.
 ghost use mathlib.Core.Path.{_≡_};
-ghost use Prim.Native.Nat.{_<_};
 ghost use lib.ListN.{length};
-ghost use Rattle.field.specs.Substitution.{different};
 ghost use Rattle.sets.specs.Sets as spec;
 ghost use Rattle.sets.specs.Sets.{setRefusal, freshStore, loaded, held, setIn};
-ghost use Rattle.sets.specs.Inverse.{inverseBytes};
 
 // A substitution and a row.
 pub struct Set {
@@ -33,8 +30,8 @@ pub struct Changed {
 fn published() -> Set
     ensures { λ r. ⌜ r ≡ spec.published ⌝ }
 {
-    let s = tables::sbox();
-    let g = tables::row();
+    let s = published::sbox();
+    let g = published::row();
     Set {
         substitution: s,
         row: g,
@@ -78,38 +75,11 @@ pub fn set_in(store: Store, i: usize) -> Set
 
 // ---- what is refused
 
-// A byte as a place.
-fn place(x: u8) -> usize
-    ensures { λ r. ⌜ (r ≡ x) × (r < 256) ⌝ }
-{
-    x as usize
-}
-
-// Whether s is 256 different bytes.
-pub fn is_different(s: &[u8]) -> bool
-    ensures { λ r. ⌜ r ≡ different (now (s .entry)) ⌝ }
-{
-    if s.len() != 256 {
-        return false;
-    }
-    let mut seen = [false; 256];
-    let mut i = 256usize;
-    while 0 < i {
-        i -= 1;
-        let x = place(s[i]);
-        if seen[x] {
-            return false;
-        }
-        seen[x] = true;
-    }
-    true
-}
-
 // The number for a substitution and a row: 14, then 13.
 fn set_refusal(s: &[u8], g: [u8; 8]) -> u8
     ensures { λ r. ⌜ r ≡ setRefusal (now (s .entry)) g ⌝ }
 {
-    if !is_different(s) {
+    if !substitutions::is_different(s) {
         return 14;
     }
     rows::row_refusal(g)
@@ -229,20 +199,4 @@ pub fn take(store: Store, publisher: usize, i: usize) -> Changed
         number: 0,
         store: moved,
     }
-}
-
-// ---- what a set's tables are made of
-
-// The inverse of a substitution, where it is 256 different bytes. From the end, so the first place of a byte stays.
-pub fn inverse(s: &[u8; 256]) -> [u8; 256]
-    ensures { λ r. ⌜ r ≡ inverseBytes (now (s .entry)) ⌝ }
-{
-    let mut r = [0u8; 256];
-    let mut at = 256usize;
-    while 0 < at {
-        at -= 1;
-        let x = place(s[at]);
-        r[x] = at as u8;
-    }
-    r
 }

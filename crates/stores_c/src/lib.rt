@@ -19,7 +19,7 @@ pub extern "C" fn labyrinth_store_fresh(store: &mut [u8]) -> u8
     if size != 1072 {
         return 4;
     }
-    store_records::put_store(sets::fresh(), store);
+    written_stores::put_store(sets::fresh(), store);
     0
 }
 
@@ -52,7 +52,7 @@ pub extern "C" fn labyrinth_store_load(
         return changed.number;
     }
     let after = changed.store;
-    store_records::put_store(after, store);
+    written_stores::put_store(after, store);
     0
 }
 
@@ -70,7 +70,7 @@ pub extern "C" fn labyrinth_store_take(store: &mut [u8], publisher: usize, set: 
         return taken.number;
     }
     let after = taken.store;
-    store_records::put_store(after, store);
+    written_stores::put_store(after, store);
     0
 }
 

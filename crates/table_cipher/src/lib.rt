@@ -17,7 +17,7 @@ ghost use Rattle.labyrinth.specs.Working.{eightTables, lendable, lentRefusal, w
 ghost use Rattle.labyrinth.specs.Working.{schedule as laidOut};
 ghost use Rattle.labyrinth.specs.Lent.{lent};
 ghost use Rattle.sets.specs.Sets.{loaded, partsIn};
-ghost use Rattle.sets.specs.Inverse.{inverseBytes};
+ghost use Rattle.substitutions.specs.Inverse.{inverseBytes};
 
 // The merged table.
 pub fn table() -> [u64; 256]
@@ -46,21 +46,21 @@ pub fn table_of(g: [u8; 8], s: &[u8; 256]) -> [u64; 256]
 pub fn substitution() -> [u8; 256]
     ensures { λ r. ⌜ r ≡ published.table1 ⌝ }
 {
-    tables::sbox()
+    published::sbox()
 }
 
 // Its inverse.
 pub fn inverse() -> [u8; 256]
     ensures { λ r. ⌜ r ≡ invert published.table1 ⌝ }
 {
-    tables::sbox_inverse()
+    published::sbox_inverse()
 }
 
 // The inverse of a set's substitution.
 pub fn inverse_of(s: &[u8; 256]) -> [u8; 256]
     ensures { λ r. ⌜ r ≡ inverseBytes (now (s .entry)) ⌝ }
 {
-    sets::inverse(s)
+    substitutions::inverse(s)
 }
 
 // The schedule of a working key, for enciphering or, with back, deciphering.
@@ -91,7 +91,7 @@ pub fn map_block(
     ensures number { λ r. ⌜ r ≡ lentRefusal n (length (now (src .entry))) (length (now (dst .entry))) (length (now (t .entry))) ⌝ }
     ensures block { λ r. ⌜ now (dst .exit) ≡ outcome r (lent n (now (t .entry)) (now (s .entry)) (now (u .entry)) (now (ks .entry)) (now (src .entry))) (now (dst .entry)) ⌝ }
 {
-    let number = labyrinth::block_refusal(n, src.len(), dst.len());
+    let number = cipher_refusals::block_refusal(n, src.len(), dst.len());
     if number != 0 {
         return number;
     }

@@ -134,7 +134,7 @@ fn rounds_of(
 pub fn rounds(t: &[u64], n: usize, ks: &[u64; 80], h: Halves) -> Halves
     ensures { λ r. ⌜ r ≡ when (legal n && lendable (length (now (t .entry)))) (laid n (iterations (lookupIn (wide (now (t .entry))) (now (t .entry))) n (λ i. half n (now (ks .entry)) (i + 2)) 16 (blockIn n h)) h) h ⌝ }
 {
-    let c = tables::constants();
+    let c = published::constants();
     let mut l = h.high;
     let mut r = h.low;
     if t.len() == 2048 {
@@ -173,7 +173,7 @@ fn alone(k: [u64; 4]) -> [u64; 80]
 pub fn iteration(t: &[u64; 256], n: usize, k: [u64; 4], l: [u64; 4], r: [u64; 4]) -> [u64; 4]
     ensures { λ x. ⌜ x ≡ when (legal n) (zip n bitXor (take n l) (F (lookup (now (t .entry))) n (take n k) (take n r)) ++ drop n r) r ⌝ }
 {
-    let c = tables::constants();
+    let c = published::constants();
     let ks = alone(k);
     let mut x = l;
     let mut y = r;

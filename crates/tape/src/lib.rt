@@ -92,7 +92,7 @@ fn key_refusal(n: usize, l: usize, key: &[u8]) -> u8
     ensures { λ r. ⌜ r ≡ keyRefusal n l (now (key .entry)) ⌝ }
 {
     let used = 8 * (n * l);
-    let number = labyrinth::expand_refusal(n, l, used);
+    let number = cipher_refusals::expand_refusal(n, l, used);
     if number != 0 {
         return number;
     }

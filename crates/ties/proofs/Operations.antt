@@ -21,15 +21,19 @@ use Rattle.modes.proofs.Refusals.{cbc-one, ctr-one, wrap-one, unwrap-one}
 use Rattle.sets.specs.declared.Store.{Store}
 use Rattle.sets.specs.Sets.{partsIn, loaded}
 use Rattle.sets.proofs.Sets.{parts-zero}
+use Rattle.keyed_pages.specs.Keyed.{written}
+use Rattle.keyed_pages.specs.Refusals.{writeRefusal, readRefusal}
 use Rattle.publishers.specs.Calls.{loads, takes, expands as use-expands, enciphers, deciphers, seals, opens, counts, tags, verifies, wraps, unwraps, key, buffer, verdict}
 use Rattle.publishers.specs.Pages.{Bytes, Words}
 use Rattle.rows.specs.Inverse.{Row}
 use Rattle.promise.specs.Demands.{AnswersKey, AnswersBlock, AnswersCbc, AnswersCtr, AnswersStep, AnswersTape, Steps, WorksTape, Expands, Enciphers, Deciphers, SealsCbc, OpensCbc, RunsCtr, SealedBy, OpenedBy, CountedBy, SealedByBlocks, OpenedByBlocks, CountedByBlocks, Substitutes, SubstitutesBack, Fresh, UnusedWordsZero, OfUsedWords, StepsOfUsedWords, ComesBack}
 use Rattle.promise.specs.Requests.{ExpandsFor, EnciphersIn, DeciphersIn, SealsCbcIn, OpensCbcIn, RunsCtrIn, MakesTagIn, VerifiesTagIn, AnswersKeyFor, AnswersBlockIn, AnswersCbcIn, AnswersCtrIn, AnswersTagIn, AnswersVerifyingIn, YesExactlyIn, MakesFresh, Loads, Takes, AnswersLoad, AnswersTake, AnswersUse, AnswersCall, ComesBackIn, MakesTag, VerifiesTag, AnswersTag, AnswersVerifying, YesExactly, GetsYes, TellsItsEnd, Multiplies, MixesBy, AnswersMixing, MixesAsBefore, MakesTable, AnswersTable, MakesTheTableLent, LooksUp, FindsMixed, MultipliesRows, Inverts, AnswersInverse, ConvertsWord, Judges, WrapsKey, UnwrapsKey, WrapsKeyIn, UnwrapsKeyIn, AnswersWrapping, AnswersUnwrapping, AnswersWrappingIn, AnswersUnwrappingIn, KeyComesBackIn}
+use Rattle.promise.specs.Pages.{ReadsEntry, ReadsTitle, OpensPage, VerifiesThenOpens, WritesPage, AnswersEntry, AnswersTitle, AnswersWriting, AnswersReading, CataloguesWritten, TitlesWritten, PageComesBackIn, OfUsedWordsOfBoth}
 use Rattle.promise.proofs.Demands.{answers-key, answers-block, seals-answers, opens-answers, ctr-answers, answers-step, answers-tape, sealed-by-blocks, opened-by-blocks, counted-by-blocks, enciphers-used, deciphers-used, seals-used, opens-used, runs-used, steps-alike, cbc-calls-open, ctr-calls-open}
 use Rattle.promise.proofs.Requests.{answers-tag, answers-verifying, yes-exactly, tags-used, verifies-used, tells-its-end, answers-mixing, answers-table, one-inverse, looks-up, published-table}
 use Rattle.promise.proofs.Stores.{enciphers-at-zero, deciphers-at-zero, makes-at-zero, seals-at-zero, opens-at-zero, runs-at-zero, verifies-at-zero, expands-at-zero, both-at-zero, enciphers-answers-in, deciphers-answers-in, makes-answers-in, seals-answers-in, opens-answers-in, runs-answers-in, verifies-answers-in, yes-exactly-in, unused-words-zero-for, answers-key-for, sealed-by-in, opened-by-in, counted-by-in, answers-load, answers-take, enciphers-as, deciphers-as, makes-as, seals-as, opens-as, runs-as, verifies-as, expands-as, loads-as, takes-as}
 use Rattle.promise.proofs.Keys.{answers-wrapping, answers-unwrapping, answers-wrapping-in, answers-unwrapping-in, wraps-at-zero, unwraps-at-zero, key-back-at-zero, wraps-as, unwraps-as, wraps-used, unwraps-used}
+use Rattle.promise.proofs.Pages.{answers-entry, answers-title, answers-writing, answers-reading, verifies-then-opens, writes-used, opens-used as page-opens-used}
 use Rattle.tape_rules.proofs.fresh as fresh
 use Rattle.tape.proofs.step as tape-step
 use Rattle.tape_run.proofs.run as tape-run
@@ -53,6 +57,13 @@ use Rattle.round_trips.proofs.cbc_there_and_back as cbc-there-and-back
 use Rattle.round_trips.proofs.ctr_there_and_back as ctr-there-and-back
 use Rattle.wrapped_trips.proofs.key_wrapped_and_unwrapped as key-wrapped-and-unwrapped
 use Rattle.wrapped_trips.proofs.key_unwrapped_and_wrapped as key-unwrapped-and-wrapped
+use Rattle.catalogue.proofs.catalogue as catalogue-page
+use Rattle.catalogue.proofs.title as title-of-page
+use Rattle.page_writer.proofs.write as write-page
+use Rattle.page_reader.proofs.open as open-page
+use Rattle.page_trips.proofs.written_and_catalogued as written-and-catalogued
+use Rattle.page_trips.proofs.written_and_titled as written-and-titled
+use Rattle.page_trips.proofs.written_and_opened as written-and-opened
 use Rattle.conversions.proofs.word_converted as word-converted
 use Rattle.rows.proofs.mix as mix-word
 use Rattle.rows.proofs.make_table as make-table
@@ -564,6 +575,84 @@ module _ (κs : Lfts 3) where
       subst (λ (p : Parts). ComesBack (unwrapRefusal (k .n) (length source) mid (authentic (U p (k .n) (k .words)) source)) (wrapRefusal (k .n) mid (length room)) source z room (e .1 .1 .1 .1 .1 .0 .now)) (parts-zero (a .0) (k .set) o)
       (both-at-zero (a .0) (a .1 .0) k source room o (unwrap-one (k .n) (length source) mid _) (wrap-one (k .n) mid (length room)) (sent-comes-back-in a z e h))
 
+-- ---- document 02, Job 9
+
+-- the catalogue reader
+module _ (κs : Lfts 1) where
+  pub reads-entry : (a : _) (z : _) (e : _) → catalogue-page.Reads.Learnt κs a z e → ReadsEntry (a .0 .now) z
+  reads-entry a z e h = h
+
+  pub entry-answers : (a : _) (z : _) (e : _) → catalogue-page.Reads.Learnt κs a z e → Bytes (a .0 .now) → AnswersEntry (a .0 .now) z
+  entry-answers a z e h b = answers-entry (a .0 .now) b h
+
+  pub reads-title : (a : _) (z : _) (e : _) → title-of-page.Reads.Learnt κs a z e → ReadsTitle (a .0 .now) (z .now)
+  reads-title a z e h = h
+
+  pub title-answers : (a : _) (z : _) (e : _) → title-of-page.Reads.Learnt κs a z e → Bytes (a .0 .now) → AnswersTitle (a .0 .now) (z .now)
+  title-answers a z e h b = answers-title (a .0 .now) b h
+
+-- the writer: a store, the sealing key, the tag key, number, day, title, start block, body, destination
+module _ (κs : Lfts 4) where
+  pub writes-page : (a : _) (z : _) (e : _) → write-page.Reads.Learnt κs a z e
+      → WritesPage (a .0) (a .1 .0) (a .1 .1 .0) (a .1 .1 .1 .0) (a .1 .1 .1 .1 .0) (a .1 .1 .1 .1 .1 .0 .now) (a .1 .1 .1 .1 .1 .1 .0 .now) (a .1 .1 .1 .1 .1 .1 .1 .0 .now) z
+      (a .1 .1 .1 .1 .1 .1 .1 .1 .0 .now) (e .1 .1 .1 .1 .1 .1 .1 .1 .0 .now)
+  writes-page a z e h = h
+
+  pub page-write-answers : (a : _) (z : _) (e : _) → write-page.Reads.Learnt κs a z e
+      → AnswersWriting (a .0) (a .1 .0) (a .1 .1 .0) (a .1 .1 .1 .1 .1 .0 .now) (a .1 .1 .1 .1 .1 .1 .0 .now) (a .1 .1 .1 .1 .1 .1 .1 .0 .now) z
+      (a .1 .1 .1 .1 .1 .1 .1 .1 .0 .now) (e .1 .1 .1 .1 .1 .1 .1 .1 .0 .now)
+  page-write-answers a z e h =
+      answers-writing (a .0) (a .1 .0) (a .1 .1 .0) (a .1 .1 .1 .0) (a .1 .1 .1 .1 .0) (a .1 .1 .1 .1 .1 .0 .now) (a .1 .1 .1 .1 .1 .1 .0 .now) (a .1 .1 .1 .1 .1 .1 .1 .0 .now) h
+
+  pub page-write-used : OfUsedWordsOfBoth {G = Store × ℕ × ℕ × (ℕ × ℕ × List ℕ × List ℕ × List ℕ × List ℕ)} (write-page.Reads.Learnt κs) (λ a. a .1 .0) (λ a. a .1 .1 .0)
+      (λ a. (a .0, a .1 .0 .set, a .1 .1 .0 .set, (a .1 .1 .1 .0, a .1 .1 .1 .1 .0, a .1 .1 .1 .1 .1 .0 .now, a .1 .1 .1 .1 .1 .1 .0 .now, a .1 .1 .1 .1 .1 .1 .1 .0 .now, a .1 .1 .1 .1 .1 .1 .1 .1 .0 .now)))
+      (λ e. e .1 .1 .1 .1 .1 .1 .1 .1 .0 .now)
+  page-write-used a b y z e f h g s u p = writes-used (a .0) (b .0) (a .1 .0) (b .1 .0) (a .1 .1 .0) (b .1 .1 .0) _ _ s u p h g
+
+-- the keyed reader: a store, the sealing key, the tag key, the record, destination
+module _ (κs : Lfts 2) where
+  pub opens-page : (a : _) (z : _) (e : _) → open-page.Reads.Learnt κs a z e
+      → OpensPage (a .0) (a .1 .0) (a .1 .1 .0) (a .1 .1 .1 .0 .now) z (a .1 .1 .1 .1 .0 .now) (e .1 .1 .1 .1 .0 .now)
+  opens-page a z e h = h
+
+  pub page-open-answers : (a : _) (z : _) (e : _) → open-page.Reads.Learnt κs a z e → Bytes (a .1 .1 .1 .0 .now)
+      → AnswersReading (a .0) (a .1 .0) (a .1 .1 .0) (a .1 .1 .1 .0 .now) z (a .1 .1 .1 .1 .0 .now) (e .1 .1 .1 .1 .0 .now)
+  page-open-answers a z e h b = answers-reading (a .0) (a .1 .0) (a .1 .1 .0) (a .1 .1 .1 .0 .now) (a .1 .1 .1 .1 .0 .now) h b
+
+  pub page-verified : (a : _) (z : _) (e : _) → open-page.Reads.Learnt κs a z e → Bytes (a .1 .1 .1 .0 .now)
+      → VerifiesThenOpens (a .0) (a .1 .0) (a .1 .1 .0) (a .1 .1 .1 .0 .now) z (a .1 .1 .1 .1 .0 .now) (e .1 .1 .1 .1 .0 .now)
+  page-verified a z e h b = verifies-then-opens (a .0) (a .1 .0) (a .1 .1 .0) (a .1 .1 .1 .0 .now) (a .1 .1 .1 .1 .0 .now) h b
+
+  pub page-open-used : OfUsedWordsOfBoth {G = Store × ℕ × ℕ × (List ℕ × List ℕ)} (open-page.Reads.Learnt κs) (λ a. a .1 .0) (λ a. a .1 .1 .0)
+      (λ a. (a .0, a .1 .0 .set, a .1 .1 .0 .set, (a .1 .1 .1 .0 .now, a .1 .1 .1 .1 .0 .now))) (λ e. e .1 .1 .1 .1 .0 .now)
+  page-open-used a b y z e f h g s u p = page-opens-used (a .0) (b .0) (a .1 .0) (b .1 .0) (a .1 .1 .0) (b .1 .1 .0) _ _ s u p h g
+
+-- functions that write a record and read it
+module _ (κs : Lfts 4) where
+  pub written-catalogued : (a : _) (z : _) (e : _) → written-and-catalogued.Reads.Learnt κs a z e
+      → let text = a .1 .1 .1 .1 .1 .1 .1 .0 .now in
+      CataloguesWritten (writeRefusal (a .0) (a .1 .0) (a .1 .1 .0) (length (a .1 .1 .1 .1 .1 .0 .now)) (length (a .1 .1 .1 .1 .1 .1 .0 .now)) (length text) (length (a .1 .1 .1 .1 .1 .1 .1 .1 .0 .now)))
+      (a .1 .1 .1 .0) (a .1 .1 .1 .1 .0) text z
+  written-catalogued a z e h = h .0
+
+  pub written-titled : (a : _) (z : _) (e : _) → written-and-titled.Reads.Learnt κs a z e
+      → TitlesWritten (writeRefusal (a .0) (a .1 .0) (a .1 .1 .0) (length (a .1 .1 .1 .1 .1 .0 .now)) (length (a .1 .1 .1 .1 .1 .1 .0 .now)) (length (a .1 .1 .1 .1 .1 .1 .1 .0 .now)) (length (a .1 .1 .1 .1 .1 .1 .1 .1 .0 .now))) z
+  written-titled a z e h = (λ t. eqb-true _ 0 (sym (h .0) ∙ t), λ o. h .0 ∙ eq-eqb _ 0 o)
+
+module _ (κs : Lfts 5) where
+  pub page-comes-back-in : (a : _) (z : _) (e : _) → written-and-opened.Reads.Learnt κs a z e
+      → let sealing = a .1 .1 .0 in
+      let tagging = a .1 .1 .1 .0 in
+      let title = a .1 .1 .1 .1 .1 .1 .0 .now in
+      let start = a .1 .1 .1 .1 .1 .1 .1 .0 .now in
+      let text = a .1 .1 .1 .1 .1 .1 .1 .1 .0 .now in
+      let room = a .1 .1 .1 .1 .1 .1 .1 .1 .1 .1 .0 .now in
+      PageComesBackIn (a .0) (a .1 .0) sealing tagging
+      (writeRefusal (a .0) sealing tagging (length title) (length start) (length text) (length (a .1 .1 .1 .1 .1 .1 .1 .1 .1 .0 .now)))
+      (readRefusal (a .1 .0) sealing tagging (written (a .0) sealing tagging (a .1 .1 .1 .1 .0) (a .1 .1 .1 .1 .1 .0) title start text) (length room))
+      text z room (e .1 .1 .1 .1 .1 .1 .1 .1 .1 .1 .0 .now)
+  page-comes-back-in a z e h = (h .0, λ s t. (h .1 .1 .1 .0 s t, h .1 .1 .1 .1 s t))
+
 -- ---- every function named here meets its contract
 
 module _ {M : Type 1} where
@@ -668,3 +757,24 @@ module _ {M : Type 1} where
 
   pub key-unwrapped-and-wrapped-met : key-unwrapped-and-wrapped.Statement.statement M
   key-unwrapped-and-wrapped-met = key-unwrapped-and-wrapped.Met.met
+
+  pub catalogue-met : catalogue-page.Statement.statement M
+  catalogue-met = catalogue-page.Met.met
+
+  pub title-met : title-of-page.Statement.statement M
+  title-met = title-of-page.Met.met
+
+  pub write-page-met : write-page.Statement.statement M
+  write-page-met = write-page.Met.met
+
+  pub open-page-met : open-page.Statement.statement M
+  open-page-met = open-page.Met.met
+
+  pub written-and-catalogued-met : written-and-catalogued.Statement.statement M
+  written-and-catalogued-met = written-and-catalogued.Met.met
+
+  pub written-and-titled-met : written-and-titled.Statement.statement M
+  written-and-titled-met = written-and-titled.Met.met
+
+  pub written-and-opened-met : written-and-opened.Statement.statement M
+  written-and-opened-met = written-and-opened.Met.met

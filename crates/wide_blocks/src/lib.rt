@@ -87,7 +87,7 @@ fn round_2(t: &[u64; 2048], c: &[u64; 4], ks: &[u64; 80], at: usize, x: [u64; 4]
 fn rounds_2(t: &[u64; 2048], ks: &[u64; 80], x: [u64; 4]) -> [u64; 4]
     ensures { λ r. ⌜ r ≡ inMemory 2 (iterations (lookupFour (now (t .entry))) 2 (λ i. half 2 (now (ks .entry)) (i + 2)) 16) x ⌝ }
 {
-    let c = tables::constants();
+    let c = published::constants();
     let mut y = x;
     let mut at = 4usize;
     while at < 36 {
@@ -113,7 +113,7 @@ fn word_in(s: &[u8; 2056], x: u64, k: u64, turn: usize) -> u64
     ensures { λ r. ⌜ r ≡ rotl (spacedSub (now (s .entry)) (plus x k)) turn ⌝ }
 {
     arithmetic::rotate_left(
-        group_transforms::substitute(s, std::num::wrapping_add_u64(x, k)),
+        spacing::substitute(s, std::num::wrapping_add_u64(x, k)),
         turn,
     )
 }
@@ -123,10 +123,7 @@ fn word_out(u: &[u8; 2056], x: u64, k: u64, turn: usize) -> u64
     requires { ⌜ turn < 64 ⌝ }
     ensures { λ r. ⌜ r ≡ minus (spacedSub (now (u .entry)) (rotl x turn)) k ⌝ }
 {
-    difference(
-        group_transforms::substitute(u, arithmetic::rotate_left(x, turn)),
-        k,
-    )
+    difference(spacing::substitute(u, arithmetic::rotate_left(x, turn)), k)
 }
 
 // IMix.

@@ -15,7 +15,7 @@ use Rattle.labyrinth.proofs.Agree.{matrix-agrees}
 use Rattle.labyrinth.proofs.Operations.{block-way}
 use Rattle.sets.specs.declared.Set.{Set}
 use Rattle.sets.specs.Sets.{substitutionIn, rowIn, partsIn, loaded}
-use Rattle.sets.specs.Inverse.{inverseBytes}
+use Rattle.substitutions.specs.Inverse.{inverseBytes}
 use Rattle.sets.proofs.Sets.{loaded-different, inverse-made, published-answer}
 use Rattle.matrix_cipher.proofs.by_matrix.Statement.{statement}
 use Rattle.matrix_cipher.proofs.by_matrix.Tie as tie

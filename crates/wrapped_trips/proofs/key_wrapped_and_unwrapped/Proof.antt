@@ -3,13 +3,13 @@
 use mathlib.Core.Path.{_≡_, refl, sym, ap, _∙_}
 use mathlib.Core.Bool.{Bool, true}
 use mathlib.Core.List.{List}
-use Prim.Native.Nat.{ℕ, zero, suc}
+use Prim.Native.Nat.{ℕ}
 use native.Mathlib.Omega.{arith}
 use lib.ListN.{length}
 use borrow.Author.Needs.{needs}
 use Rattle.forms.specs.Refusals.{outcome, firstOf}
 use Rattle.forms.proofs.Bytes.{Bytes, Small}
-use Rattle.forms.proofs.Twice.{Both, stopped, went-on, comes-back, first-passed, first-refused}
+use Rattle.forms.proofs.Twice.{Both, stopped, went-on, comes-back, first-cong}
 use Rattle.labyrinth.specs.Cipher.{Parts}
 use Rattle.labyrinth.specs.Keys.{E, U}
 use Rattle.labyrinth.specs.Refusals.{underKey}
@@ -52,11 +52,6 @@ goes-on s {r} {m} e w z l f v =
     let a = s .args in
     let sent : m ≡ there s (a .src .now) = w ∙ ap (λ (n : ℕ). outcome n (there s (a .src .now)) (a .mid .now)) z in
     went-on (first s) (second s (right s (there s (a .src .now)))) (there s) (back s) (a .src .now) (a .mid .now) (a .dst .now) e w z l (f ∙ ap (λ (x : List ℕ). second s (right s x) (length m)) sent) v
-
--- a second number that matters only where the first is 0
-first-cong : (a : ℕ) {b c : ℕ} → (a ≡ 0 → b ≡ c) → firstOf a b ≡ firstOf a c
-first-cong zero h = sym (first-passed 0 _ refl) ∙ h refl ∙ first-passed 0 _ refl
-first-cong (suc a) h = sym (first-refused (suc a) _ (λ z. omega arith)) ∙ first-refused (suc a) _ (λ z. omega arith)
 
 module _ (s : tie.Start) (hp : Bytes (s .args .src .now)) {r : ℕ} {m d : List ℕ} (b : Comes s r m d) (h : SameSet (s .args .k .set) (s .args .wrapping) (s .args .unwrapping)) where
   small : Small (s .args .k .words)
