@@ -14,8 +14,8 @@ use Rattle.modes.specs.Refusals.{cmacRefusal}
 use Rattle.modes.proofs.Maps.{keeps-one}
 use Rattle.modes.proofs.Refusals.{cmac-taken}
 use Rattle.cmac.proofs.Tags.{made-verified}
-use Rattle.round_trips.proofs.tag_made_and_verified.Statement.{statement}
-use Rattle.round_trips.proofs.tag_made_and_verified.Tie as tie
+use Rattle.tag_trips.proofs.tag_made_and_verified.Statement.{statement}
+use Rattle.tag_trips.proofs.tag_made_and_verified.Tie as tie
 
 make-requires : tie.Need-make-requires
 make-requires c κs = search needs

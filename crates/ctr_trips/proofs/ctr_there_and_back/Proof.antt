@@ -16,8 +16,8 @@ use Rattle.modes.proofs.Again.{ctr-again}
 use Rattle.sets.specs.Sets.{loaded, partsIn}
 use Rattle.publishers.specs.Pages.{SameSet}
 use Rattle.publishers.proofs.Pages.{same-parts}
-use Rattle.round_trips.proofs.ctr_there_and_back.Statement.{statement}
-use Rattle.round_trips.proofs.ctr_there_and_back.Tie as tie
+use Rattle.ctr_trips.proofs.ctr_there_and_back.Statement.{statement}
+use Rattle.ctr_trips.proofs.ctr_there_and_back.Tie as tie
 
 -- the first call's number, the second's by the length of mid, and the two runs
 abbrev first : tie.Start → ℕ

@@ -20,8 +20,8 @@ use Rattle.sets.proofs.Sets.{loaded-sound}
 use Rattle.publishers.specs.Pages.{SameSet}
 use Rattle.publishers.proofs.Pages.{same-parts}
 use Rattle.publishers.proofs.Words.{words-small}
-use Rattle.round_trips.proofs.cbc_there_and_back.Statement.{statement}
-use Rattle.round_trips.proofs.cbc_there_and_back.Tie as tie
+use Rattle.cbc_trips.proofs.cbc_there_and_back.Statement.{statement}
+use Rattle.cbc_trips.proofs.cbc_there_and_back.Tie as tie
 
 -- the first call's number, the second's by the length of mid, and the two runs
 abbrev first : tie.Start → ℕ
