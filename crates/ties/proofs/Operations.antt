@@ -46,9 +46,9 @@ use Rattle.cbc.proofs.seal as seal
 use Rattle.cbc.proofs.open as cbc-open
 use Rattle.ctr.proofs.run as run
 use Rattle.cmac.proofs.make as make
-use Rattle.sets.proofs.fresh as fresh-store
-use Rattle.sets.proofs.load as load-set
-use Rattle.sets.proofs.take as take-set
+use Rattle.stores.proofs.fresh as fresh-store
+use Rattle.stores.proofs.load as load-set
+use Rattle.stores.proofs.take as take-set
 use Rattle.cmac.proofs.verify as verify
 use Rattle.key_wrap.proofs.wrap as wrap
 use Rattle.key_wrap.proofs.unwrap as unwrap

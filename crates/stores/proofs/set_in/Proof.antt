@@ -1,10 +1,10 @@
 -- Set 0 by the constants, a number outside, or what stands in the store.
 -- Assumes nothing.
 use mathlib.Core.Path.{sym, _∙_}
 use Rattle.sets.proofs.Sets.{setIn-zero, setIn-other, setIn-outside}
 use borrow.Author.Needs.{needs}
-use Rattle.sets.proofs.set_in.Statement.{statement}
-use Rattle.sets.proofs.set_in.Tie as tie
+use Rattle.stores.proofs.set_in.Statement.{statement}
+use Rattle.stores.proofs.set_in.Tie as tie
 
 published-requires : tie.Need-published-requires
 published-requires c κs = search needs
