@@ -270,7 +270,7 @@ def shared(made, place):
     return out
 
 
-INNER = "word_bytes buffers strings numbers mixing rows eight_tables sets labyrinth tape_rules conversions round_trips wrapped_trips".split()  # what tests/wrong/inner.txt calls
+INNER = "word_bytes buffers strings numbers mixing rows eight_tables stores sets labyrinth tape_rules conversions cbc_trips ctr_trips tag_trips wrapped_trips".split()  # what tests/wrong/inner.txt calls
 
 
 def inner(sources, place):
