@@ -16,6 +16,7 @@ use Rattle.sets.specs.declared.Store.{Store}
 use Rattle.pages.specs.Pages.{Page, sealedPage, withTag}
 use Rattle.catalogue.specs.declared.Entry.{Entry}
 use Rattle.catalogue.specs.Catalogue.{entry, titlePart}
+use Rattle.catalogue.proofs.Catalogues.{entry-yes, title-yes}
 use Rattle.keyed_pages.specs.Keyed.{written}
 use Rattle.keyed_pages.specs.Refusals.{writeRefusal}
 use Rattle.keyed_pages.proofs.Refusals.{Write-taken, write-taken}
@@ -52,17 +53,17 @@ module _ (s : Store) (sealing tagging : WorkingKey) (number day : ℕ) (title st
     mid-written = w ∙ ap (λ (n : ℕ). outcome n page before) z
 
     written-entry : entry page ≡ record { number = 0; page = number; day = day; blocks = length text / 16 }
-    unfolding entry sealedPage withTag
+    unfolding sealedPage withTag
     written-entry =
-        rw (written-isRecord s sealing tagging number day title start text taken small)
-        (ap₂ (λ (p : Page) (k : ℕ). record { number = 0; page = p .number; day = p .day; blocks = k })
-        (written-parts s sealing tagging number day title start text taken small) (written-blocks s sealing tagging number day title start text taken small))
+        entry-yes page (written-isRecord s sealing tagging number day title start text taken small)
+        ∙ ap₂ (λ (p : Page) (k : ℕ). record { number = 0; page = p .number; day = p .day; blocks = k })
+        (written-parts s sealing tagging number day title start text taken small) (written-blocks s sealing tagging number day title start text taken small)
 
     written-title : titlePart page ≡ title
-    unfolding titlePart sealedPage withTag
+    unfolding sealedPage withTag
     written-title =
-        rw (written-isRecord s sealing tagging number day title start text taken small)
-        (ap (λ (p : Page). p .title) (written-parts s sealing tagging number day title start text taken small))
+        title-yes page (written-isRecord s sealing tagging number day title start text taken small)
+        ∙ ap (λ (p : Page). p .title) (written-parts s sealing tagging number day title start text taken small)
 
     pub entry-written : {answer : Entry} → answer ≡ entry m
         → answer
