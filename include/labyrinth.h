@@ -54,11 +54,11 @@
 /* The library's version is 0.k.0, the landing being the kth in CHANGELOG.md from the first release, 0.1.0, on. */
 #define LABYRINTH_VERSION "0.15.0"
 
-/* No call uses more bytes of the stack. Measured on a painted stack were 33008, of CTR under a working key of another set than 0, the return
- * address and what the caller pushes counted (x86_64 Linux, Debian 12, gcc 12.2, glibc 2.36, the archive as rattle-kit-5b makes it); the rest
- * is room for a memcpy that uses more. Where memcpy and memset are only bound when first called, the first call takes more, 3136 bytes when
- * it was measured: link with -z now, or call once where the stack is large. */
-#define LABYRINTH_STACK 40960
+/* No call uses more bytes of the stack. Measured on a painted stack were 40848, of labyrinth_page_open, and at most 33008 of each other, the
+ * return address and what the caller pushes counted (x86_64 Linux, Debian 12, gcc 12.2, glibc 2.36, the archive as rattle-kit-5b makes it);
+ * the rest is room for a memcpy that uses more. Where memcpy and memset are only bound when first called, the first call takes more, 3136
+ * bytes when it was measured: link with -z now, or call once where the stack is large. */
+#define LABYRINTH_STACK 49152
 
 #ifdef __cplusplus
 extern "C" {

@@ -31,7 +31,7 @@ contents() {
     echo "writable $(readelf -SW "$1" | sed 's/^ *\[ *[0-9]*\] *//' | awk '$7 ~ /W/ { print $1 }' | sort -u | xargs)"
 }
 cat >"$work/contents" <<'END'
-offers labyrinth_cbc_open labyrinth_cbc_seal labyrinth_cmac labyrinth_cmac_verify labyrinth_ctr labyrinth_decipher labyrinth_encipher labyrinth_expand labyrinth_key_cbc_open labyrinth_key_cbc_seal labyrinth_key_cmac labyrinth_key_cmac_verify labyrinth_key_ctr labyrinth_key_decipher labyrinth_key_decipher_by_matrix labyrinth_key_encipher labyrinth_key_encipher_by_matrix labyrinth_key_unwrap labyrinth_key_wrap labyrinth_mix labyrinth_mix_row labyrinth_row_inverse labyrinth_row_judge labyrinth_row_product labyrinth_store_fresh labyrinth_store_load labyrinth_store_take
+offers labyrinth_cbc_open labyrinth_cbc_seal labyrinth_cmac labyrinth_cmac_verify labyrinth_ctr labyrinth_decipher labyrinth_encipher labyrinth_expand labyrinth_key_cbc_open labyrinth_key_cbc_seal labyrinth_key_cmac labyrinth_key_cmac_verify labyrinth_key_ctr labyrinth_key_decipher labyrinth_key_decipher_by_matrix labyrinth_key_encipher labyrinth_key_encipher_by_matrix labyrinth_key_unwrap labyrinth_key_wrap labyrinth_mix labyrinth_mix_row labyrinth_page_catalogue labyrinth_page_open labyrinth_page_write labyrinth_row_inverse labyrinth_row_judge labyrinth_row_product labyrinth_store_fresh labyrinth_store_load labyrinth_store_take
 needs memcpy memset
 writable 
 END
@@ -52,7 +52,7 @@ alter writable 'static int more __attribute__((used)) = 1;'
 gcc -shared -Wl,-z,defs -Wl,-z,text -Wl,--whole-archive "$archive" -Wl,--no-whole-archive -o "$work/liblabyrinth.so" || wrong "no shared library"
 
 # ---- the examples, as C and as C++: what they print is what the archivists' program says
-for example in page convert; do
+for example in page convert record; do
     gcc -std=c99 $warnings -I target/dist "examples/$example.c" "$archive" -o "$work/$example" || wrong "$example.c as C99"
     g++ -std=c++11 $warnings -x c++ -I target/dist "examples/$example.c" -x none "$archive" -o "$work/$example++" || wrong "$example.c as C++"
     "$work/$example" >"$work/$example.printed" || wrong "$example.c failed"
@@ -95,6 +95,31 @@ for word in ("word 1", "word 2", "word 3"):
 sys.exit(not right)
 END
 }
+record_agrees() {
+    python3 -B - "$1" <<'END'
+import re
+import sys
+
+sys.path[:0] = ["tests", "tests/archivists"]
+import labyrinth
+import page_records
+
+with open(sys.argv[1]) as file:
+    said = dict(line.rstrip("\n").split(": ", 1) for line in file)
+sealing, tagging = (labyrinth.Labyrinth(1, bytes.fromhex(said[name])) for name in ("key", "tag key"))
+start, body, written = (bytes.fromhex(said[name]) for name in ("start", "body", "written"))
+listed, altered_listed = (re.fullmatch(r'number (\d+), day (\d+), blocks (\d+), title "(.*)"', said[name]) for name in ("listed", "altered listed"))
+if not listed or not altered_listed:
+    sys.exit(1)
+(number, day, blocks, title), (*others, other_title) = listed.groups(), altered_listed.groups()
+records = page_records.Records()
+record = records.written(sealing, tagging, int(number), int(day), title.encode(), start, body)
+altered = record[:11] + other_title.encode() + record[43:]
+right = written == record and int(blocks) == len(body) // 16 and said["opened"] == body.decode() and others == [number, day, blocks]
+right = right and sum(a != b for a, b in zip(record, altered)) == 1 and not records.right(sealing, tagging, records.parts(altered))
+sys.exit(not right or said["altered opened"] != "refused with 20, nothing written")
+END
+}
 # the example, then its lines that are noticed if they are altered
 compare() {
     example=$1 printed=$work/$1.printed
@@ -109,6 +134,7 @@ compare() {
 }
 compare page 'cbc sealed' 'ctr sealed' 'cbc tag' 'ctr tag' 'cbc genuine' 'ctr genuine' 'ctr altered genuine'
 compare convert 'old row' 'inverse' 'converting row' 'word '{1,2,3}{'',' mixed',' converted'}
+compare record 'key' 'tag key' 'start' 'body' 'written' 'listed' 'opened' 'altered listed' 'altered opened'
 # the examples over functions of which one spoils what it gives or refuses: they fail then, and tell of a refusal, and else print the same
 cat >"$work/spoil.c" <<'END'
 #include <stdlib.h>
@@ -127,6 +153,8 @@ cat >"$work/spoil.c" <<'END'
 #define FRONT size_t n, KEY, const uint8_t *start, size_t start_len
 #define BACK const uint8_t *src, size_t src_len, uint8_t *dst, size_t dst_len
 #define MESSAGE KEY, const uint8_t *msg, size_t msg_len
+#define KEYS const uint8_t *store, size_t store_len, const uint8_t *sealing, size_t sealing_len, const uint8_t *tagging, size_t tagging_len
+#define BY store, store_len, sealing, sealing_len, tagging, tagging_len
 WRAP(labyrinth_cbc_seal, dst, (FRONT, BACK), (n, l, key, key_len, start, start_len, src, src_len, dst, dst_len))
 WRAP(labyrinth_cbc_open, dst, (FRONT, BACK), (n, l, key, key_len, start, start_len, src, src_len, dst, dst_len))
 WRAP(labyrinth_ctr, dst, (FRONT, uint64_t q, BACK), (n, l, key, key_len, start, start_len, q, src, src_len, dst, dst_len))
@@ -136,6 +164,11 @@ WRAP(labyrinth_mix_row, out, (const uint8_t *row, size_t row_len, uint64_t word,
 WRAP(labyrinth_row_product, dst, (const uint8_t *g, size_t g_len, const uint8_t *h, size_t h_len, uint8_t *dst, size_t dst_len),
      (g, g_len, h, h_len, dst, dst_len))
 WRAP(labyrinth_row_inverse, dst, (const uint8_t *row, size_t row_len, uint8_t *dst, size_t dst_len), (row, row_len, dst, dst_len))
+WRAP(labyrinth_page_write, dst + 61, (KEYS, uint32_t number, uint32_t day, const uint8_t *title, size_t title_len, const uint8_t *start, size_t start_len, const uint8_t *body,
+     size_t body_len, uint8_t *dst, size_t dst_len), (BY, number, day, title, title_len, start, start_len, body, body_len, dst, dst_len))
+WRAP(labyrinth_page_catalogue, blocks, (const uint8_t *record, size_t record_len, uint32_t *number, uint32_t *day, uint64_t *blocks, uint64_t *title_at),
+     (record, record_len, number, day, blocks, title_at))
+WRAP(labyrinth_page_open, dst, (KEYS, const uint8_t *record, size_t record_len, uint8_t *dst, size_t dst_len), (BY, record, record_len, dst, dst_len))
 uint64_t __real_labyrinth_mix(uint64_t word);
 uint64_t __wrap_labyrinth_mix(uint64_t word);
 uint64_t __wrap_labyrinth_mix(uint64_t word)
@@ -145,8 +178,9 @@ uint64_t __wrap_labyrinth_mix(uint64_t word)
 END
 page_uses="labyrinth_cbc_seal labyrinth_cbc_open labyrinth_ctr labyrinth_cmac labyrinth_cmac_verify"
 convert_uses="labyrinth_mix labyrinth_mix_row labyrinth_row_product labyrinth_row_inverse"
-for example in page convert; do
-    gcc -std=c99 $warnings -I target/dist $(printf ' -Wl,--wrap=%s' $page_uses $convert_uses) "examples/$example.c" "$work/spoil.c" "$archive" -o "$work/spoilt" ||
+record_uses="labyrinth_page_write labyrinth_page_catalogue labyrinth_page_open"
+for example in page convert record; do
+    gcc -std=c99 $warnings -I target/dist $(printf ' -Wl,--wrap=%s' $page_uses $convert_uses $record_uses) "examples/$example.c" "$work/spoil.c" "$archive" -o "$work/spoilt" ||
         wrong "$example.c over spoilt functions"
     SPOILS='' REFUSES='' "$work/spoilt" | cmp - "$work/$example.printed" || wrong "$example.c prints something else over functions that spoil nothing"
     uses=${example}_uses
@@ -162,7 +196,7 @@ for example in page convert; do
     done
 done
 
-# ---- numbers, NULL, runs, tags, rows and verdicts, stores and working keys, stack, lent memory
+# ---- numbers, NULL, runs, tags, rows and verdicts, stores and working keys, page records, stack, lent memory
 gcc -std=gnu11 -O2 $warnings -Wl,-z,now -I target/dist tests/c_interface/*.c "$archive" -o "$work/c_interface" || { echo "c_interface: not compiled"; exit 1; }
 "$work/c_interface" "$@" || wrong "tests/c_interface failed"
 [ $status -eq 0 ] || echo "c_interface: FAILED"

@@ -1,8 +1,8 @@
 #!/usr/bin/env python3
 """Tries the command labyrinth (target/rust/release/labyrinth): the archivists' CBC, CTR, CMAC and KW vectors through files and standard streams,
-pages, tags and wrapped keys with three other sets of tables, the page and the keys of its own help, every exit status and number, and that no run
-leaves a half-written OUT; then shows that one altered byte is noticed. Expected numbers are those of documents 01 and 02 (tests/papers.py), expected
-bytes, tags and keys the archivists'."""
+pages, tags, wrapped keys and page records with three other sets of tables, page records written, listed and opened, the page, the keys and the record of
+its own help, every exit status and number, and that no run leaves a half-written OUT; then shows that one altered byte is noticed. Expected numbers are
+those of documents 01 and 02 (tests/papers.py), expected bytes, tags and keys the archivists', records laid out by tests/page_records.py."""
 import json
 import os
 import pty
@@ -23,15 +23,17 @@ sys.path[:0] = [os.path.join(HERE, "archivists"), HERE]
 import archivists_sets
 import labyrinth
 import modes
+import page_records
 import papers
 
 BUILT = os.path.join(ROOT, "target", "rust", "release", "labyrinth")
 KEY = "f00dfeedf00dfeed0123456789abcdef"
+TAG_KEY = KEY[10:] + KEY[:10]  # it has digits of KEY in it, so that a message that shows it is noticed
 START = "ff" * 16
 MIB = 1 << 20
 OLD = b"what OUT held before"
 NOBODY = 65534
-COUNT = 2813
+COUNT = 3854
 
 
 class Wrong(Exception):
@@ -147,12 +149,22 @@ def wrap_words(way="wrap", l=2, key="key", names=("other.key", "out"), tables=No
     return [way, "-l", str(l), "--key-file", key, *with_tables(tables), *names]
 
 
+def page_words(way="write", l=2, key="key", tag_key="tag.key", tag_l=None, number=17, day=20014, title="Of the harbour", start=START, names=("page", "out"), **sets):
+    """Sets are tables, and tag_tables."""
+    options = ["-l", str(l), "--key-file", key, "--tag-key-file", tag_key, *([] if tag_l is None else ["--tag-l", str(tag_l)]), *with_tables(sets.get("tables"))]
+    options += [] if sets.get("tag_tables") is None else ["--tag-set", sets["tag_tables"]]
+    text = ["--number", str(number), "--day", str(day), "--title", title, "--start", start]
+    return ["page", way, *options, *(text if way == "write" else []), *names]
+
+
 def with_tables(name):
     return [] if name is None else ["--set", name]
 
 
 def papers_number(place, words):
-    """For words as the three functions above make them, with files of hexadecimal digits for the keys and of bytes for IN, if it isn't a key."""
+    """For words as the functions above make them, with files of hexadecimal digits for the keys and of bytes for IN, if it isn't a key."""
+    if words[0] == "page":
+        return papers_page_number(place, words)
     way, names = words[0], 1 if words[0] in ("tag", "verify") else 2
     said = dict(zip(words[1:-names:2], words[2:-names:2]))
     l, key = int(said["-l"]), len(place.read(said["--key-file"])) // 2
@@ -169,6 +181,23 @@ def papers_number(place, words):
         return papers.through_c(way, 1, l, key, 0, source, source + (8 if way == "wrap" else -8))
     source = len(place.read(words[-2]))
     return papers.through_c("ctr" if said["--mode"] == "ctr" else f"cbc_{way}", int(said["-n"]), l, key, len(said["--start"]) // 2, source, source)
+
+
+def papers_page_number(place, words):
+    """Sets are files of digits too. An IN that isn't there is as good as an empty body, or as a record."""
+    said = dict(zip(words[2:-2:2], words[3:-2:2]))
+    for i, option in enumerate(("--set", "--tag-set"), 1):
+        data = bytes.fromhex(place.read(said[option]).decode()) if option in said else b"".join(archivists_sets.PUBLISHED)
+        if number := papers.Store.fresh().load(0, i, data[:256], data[256:]):
+            return number
+    for l, key in ((said["-l"], said["--key-file"]), (said.get("--tag-l", said["-l"]), said["--tag-key-file"])):
+        if number := papers.expansion(1, int(l), len(place.read(key)) // 2):
+            return number
+    source = place.read(words[-2]) if os.path.exists(place.at(words[-2])) else b""
+    if words[1] == "open":
+        return 19 if RECORDS.parts(source) is None else 20
+    title = max(32, len(said["--title"].encode()))
+    return papers.page_lengths(title, len(said["--start"]) // 2, len(source), papers.record_length(len(source) // 16))
 
 
 def sealed(mode, data, q=0):
@@ -540,6 +569,401 @@ def wrap_files(place):
         os.remove(place.at(extra))
 
 
+RECORDS = page_records.Records()
+NO_TAG = "no: refused with 20: the page record's tag is wrong"
+NO_RECORD = "refused with 19: no page record: "
+
+
+def a_record(body, number=17, day=20014, title="Of the harbour", start=START, key=KEY, tag_key=TAG_KEY, tables=archivists_sets.PUBLISHED, tag_tables=archivists_sets.PUBLISHED):
+    """By the archivists' program. A record is made of two keys, each with tables of its own; theirs has one set of them at a time."""
+    title = title if isinstance(title, bytes) else title.encode()
+    with archivists_sets.with_set(*tables):
+        run = modes.cbc_encrypt(labyrinth.Labyrinth(1, bytes.fromhex(key)), bytes.fromhex(start), body)
+    page = page_records.Page(number, day, title.ljust(32), bytes.fromhex(start), run, b"")
+    with archivists_sets.with_set(*tag_tables):
+        return RECORDS.layout(page._replace(tag=modes.cmac(labyrinth.Labyrinth(1, bytes.fromhex(tag_key)), RECORDS.front(page))))
+
+
+def listed(name, number=17, day=20014, blocks=3, title="Of the harbour"):
+    """A line of the list, the title as it is shown."""
+    return f'{number:>10} {day:>10} {blocks:>5} "{title}" {name}\n'.encode()
+
+
+def some_body(blocks):
+    return bytes(i * i % 253 for i in range(16 * blocks))
+
+
+def page_vectors(place, alter=lambda data: data):
+    """Bodies of some lengths, keys of every l, numbers and days at their ends: written and opened from file to file and from stream to stream."""
+    cases = [(b, 2 + b % 3, 2 + b // 3 % 3) for b in (0, 1, 2, 3, 4, 5, 6, 7, 8, 63, 64, 65, 130)]
+    for i, (blocks, l, tag_l) in enumerate(cases):
+        body, key, tag_key = some_body(blocks), (KEY * 2)[: 16 * l], (TAG_KEY * 2)[: 16 * tag_l]
+        place.write("tag.key", tag_key.encode())
+        place.write("vector.key", key.encode())
+        text = dict(number=(0, 17, 2**32 - 1, 2**31)[i % 4], day=(2**32 - 1, 0, 20014)[i % 3], title=("", "A", "x" * 32, "\u0416" * 16)[i % 4], start=f"{i:032x}")
+        record = a_record(body, **text, key=key, tag_key=tag_key)
+        case = dict(l=l, tag_l=tag_l, key="vector.key")
+        for way, source, expected, more in (("write", body, record, text), ("open", record, body, {})):
+            what = f"page {way}, l = {l} and {tag_l}, {blocks} blocks"
+            place.write("in", source)
+            place.works(what, page_words(way, **case, **more, names=("in", "out")), alter(expected))
+            os.remove(place.at("out"))
+            place.works(what + ", streams", page_words(way, **case, **more, names=("-", "-")), alter(expected), out="-", given=source)
+        line = listed("in", text["number"], text["day"], blocks, text["title"])
+        place.works("the record listed", ["page", "list", "in"], alter(line), out="-")
+        place.write("in", flipped(record))
+        place.fails("an altered record", 4, f"in: {NO_TAG}", page_words("open", **case, names=("in", "out")))
+        place.fails("an altered record, streams", 4, NO_TAG, page_words("open", **case, names=("-", "-")), out=None, given=flipped(record))
+    for name in ("in", "vector.key", "tag.key"):
+        os.remove(place.at(name))
+
+
+def page_forms(place):
+    """Ways to write one thing; the longest body; what OUT was."""
+    page = place.read("page")
+    record = a_record(page)
+    place.write("tag.key", TAG_KEY.encode())
+    place.works("a page", page_words(), record)
+    place.works("the number and the day in hexadecimal", page_words(number="0x11", day="0x4E2e"), record)
+    place.works("a start block in groups", page_words(start=" FF" * 16 + " "), record)
+    place.works("the tag key's l", page_words(tag_l=2), record)
+    place.works("the key from standard input", page_words(key="-"), record, given=KEY.encode())
+    place.works("the tag key from standard input", page_words(tag_key="-"), record, given=TAG_KEY.encode() + b"\n")
+    place.works("from standard input to a file", page_words(names=("-", "out")), record, given=page)
+    place.works("from a file to standard output", page_words(names=("page", "-")), record, out="-")
+    place.works("spaces behind the title", page_words(title="Of the harbour    "), record)
+    words = page_words()
+    place.works("options first", [*words[2:-2], "page", "write", "page", "out"], record)
+    place.works("options last", ["page", "write", "page", "out", *words[2:-2]], record)
+    place.works("options between", ["page", *words[2:-2], "write", "page", "out"], record)
+    place.write("-x", page)
+    place.works("names after --", page_words(names=("--", "-x", "out")), record)
+    name = os.fsencode(place.path) + b"/\xff\xfe"
+    place.works("a name that is no text", page_words(names=("page", name)), record, out=os.fsdecode(name))
+    place.works("one key for both", page_words(tag_key="key"), a_record(page, tag_key=KEY))
+    place.write("record", record)
+    place.works("opened to a name that is no text", page_words("open", names=("record", name)), page, out=os.fsdecode(name))
+    place.works("opened to standard output", page_words("open", names=("record", "-")), page, out="-")
+    place.works("opened with the key from standard input", page_words("open", key="-", names=("record", "out")), page, given=KEY.encode())
+    for extra in ("-x", "out", os.fsdecode(name)):
+        os.remove(place.at(extra))
+    # what OUT was: its permissions and a link to it stay
+    for way, source, expected in (("write", "page", record), ("open", "record", page)):
+        place.write("out", OLD)
+        os.chmod(place.at("out"), 0o640)
+        os.symlink("out", place.at("link"))
+        place.works(f"page {way}, OUT by a link", page_words(way, names=(source, "link")), expected)
+        if not os.path.islink(place.at("link")) or os.stat(place.at("out")).st_mode & 0o7777 != 0o640:
+            raise Wrong("OUT's permissions or the link to it were lost")
+        os.remove(place.at("link"))
+        os.remove(place.at("out"))
+        place.works(f"page {way}, a new OUT under a umask", page_words(way, names=(source, "out")), expected, preexec_fn=lambda: os.umask(0o027))
+        if os.stat(place.at("out")).st_mode & 0o7777 != 0o640:
+            raise Wrong("a new OUT doesn't heed the umask")
+        os.remove(place.at("out"))
+    # the most blocks; the record is laid out by the command itself here, the archivists' program being slow
+    most = some_body(4096)
+    place.write("record", most)
+    done = place.run(page_words(names=("record", "-")))
+    page_of = RECORDS.parts(done.stdout)
+    if done.returncode != 0 or page_of is None or len(page_of.sealed) != len(most):
+        raise Wrong(f"4,096 blocks: status {done.returncode}, {len(done.stdout)} bytes")
+    place.works("4,096 blocks opened", page_words("open", names=("-", "-")), most, out="-", given=done.stdout)
+    place.works("4,096 blocks listed", ["page", "list", "-"], listed("-", blocks=4096), out="-", given=done.stdout)
+    for extra in ("record", "tag.key"):
+        os.remove(place.at(extra))
+
+
+def lists(place, what, status, files, lines, says, **more):
+    """These lines on standard output, and each of these on standard error, in this order; nothing that a terminal would obey."""
+    done = place.run(["page", "list", *files], **more)
+    told = done.stderr.decode().splitlines()
+    if done.returncode != status or done.stdout != b"".join(lines):
+        raise Wrong(f"{what}: status {done.returncode}, other bytes: {done.stdout}, {told}")
+    if len(told) != len(says) or not all(line.startswith("labyrinth: ") and say in line for line, say in zip(told, says)):
+        raise Wrong(f"{what}: {told}")
+    if any(not c.isprintable() for line in done.stdout.decode().splitlines() for c in line):
+        raise Wrong(f"{what}: something that can't be seen goes to the terminal: {done.stdout}")
+    place.count += 1
+
+
+def page_list(place):
+    """Many records at once; after one that is none, or can't be read, it goes on; titles of any bytes."""
+    names = [f"{i}.page" for i in range(5)]
+    for i, name in enumerate(names):
+        place.write(name, a_record(some_body(i), number=i, day=9 - i, title=f"Page {i}"))
+    lines = [listed(name, i, 9 - i, i, f"Page {i}") for i, name in enumerate(names)]
+    lists(place, "five", 0, names, lines, [])
+    lists(place, "one twice, in any order", 0, [names[3], names[1], names[3]], [lines[3], lines[1], lines[3]], [])
+    place.write("cut", place.read(names[4])[:-1])
+    place.write("longer", place.read(names[4]) + b"\0")
+    place.write("other", place.read(names[4])[:60] + b"\x14" + place.read(names[4])[61:])
+    place.write("empty", b"")
+    place.write_long()
+    os.mkdir(place.at("directory"))
+    place.write("locked", b"")
+    os.chmod(place.at("locked"), 0o000)
+    bad = {"cut": "it has 144 bytes, and a record has 77 and 17 for each block", "longer": "it has 146 bytes", "other": "a command byte isn't where a record has it"}
+    bad |= {"empty": "it has 0 bytes", "long": "it has more than 69709 bytes", "page": "it has 48 bytes"}
+    for name, why in bad.items():
+        for at in range(3):
+            some = [*names[:at], name, *names[at:2]]
+            lists(place, f"{name} at place {at}", 1, some, lines[:2], [f"{name}: {NO_RECORD}{why}", "1 of 3 were not listed"])
+        place.fails(f"{name} alone", 1, f"{name}: {NO_RECORD}{why}", ["page", "list", name], out=None)
+        place.write("tag.key", TAG_KEY.encode())
+        place.fails(f"{name} to be opened", 1, f"{name}: {NO_RECORD}{why}", page_words("open", names=(name, "out")))
+        os.remove(place.at("tag.key"))
+    says = [f"cut: {NO_RECORD}", f"empty: {NO_RECORD}", "2 of 5 were not listed"]
+    lists(place, "two that are none", 1, ["cut", *names[:2], "empty", names[2]], lines[:3], says)
+    for name, why in (("missing", "missing: No such file"), ("directory", "directory: Is a directory"), ("locked", "locked: Permission denied")):
+        says = [why, f"cut: {NO_RECORD}", "2 of 4 were not listed"]
+        lists(place, f"{name} among them", 3, [names[0], name, "cut", names[1]], lines[:2], says, **somebody())
+    narrowly = dict(preexec_fn=narrow)
+    lists(place, "a long file where there is little memory", 1, ["long", names[0]], lines[:1], [f"long: {NO_RECORD}", "1 of 2 were not listed"], **narrowly)
+    lists(place, "standard input", 0, [names[0], "-"], [lines[0], listed("-", 1, 8, 1, "Page 1")], [], given=place.read(names[1]))
+    lists(place, "standard input that is none", 1, ["-", names[0]], lines[:1], [f"standard input: {NO_RECORD}", "1 of 2"], given=b"x" * 77)
+    # needs no key: it lists what no key opens
+    unknown = flipped(place.read(names[2]))
+    place.write("unknown", unknown)
+    lists(place, "a record with a wrong tag", 0, ["unknown"], [listed("unknown", 2, 7, 2, "Page 2")], [])
+    # titles
+    shown = {
+        b"": "", b"   x": "   x", b"x" * 32: "x" * 32, b"a  b": "a  b", "\u0416\u00e9\u4e2d'".encode(): "\u0416\u00e9\u4e2d'", b"\x1b[2J\x1b]0;x\x07": r"\u{1b}[2J\u{1b}]0;x\u{7}",
+        b"a\nb\r\tc\0": r"a\nb\r\tc\0", b"\x7f\x9b\xff": r"\u{7f}\x9b\xff", "\u009b\u202e\u2028\u200b".encode(): r"\u{9b}\u{202e}\u{2028}\u{200b}",
+        b'"quoted" \\': r'\"quoted\" \\', "x".encode() * 31 + "\u0416".encode()[:1]: "x" * 31 + r"\xd0", bytes(32): r"\0" * 32,
+    }  # fmt: skip
+    for title, text in shown.items():
+        place.write("unknown", unknown[:11] + title.ljust(32) + unknown[43:])
+        lists(place, f"the title {title}", 0, ["unknown"], [listed("unknown", 2, 7, 2, text)], [])
+    for value in range(256):
+        place.write("unknown", unknown[:11] + bytes([value]) * 32 + unknown[43:])
+        done = place.run(["page", "list", "unknown"])
+        if done.returncode != 0 or done.stdout.count(b"\n") != 1 or any(not 0x20 <= byte <= 0x7E for byte in done.stdout[:-1]):
+            raise Wrong(f"a title of bytes {value:02x}: {done.stdout}")
+        place.count += 1
+    # names
+    place.write("-x", unknown)
+    lists(place, "a name after --", 0, ["--", "-x"], [listed("-x", 2, 7, 2, "Page 2")], [])
+    place.write("a\n\x1bb", unknown)
+    lists(place, "a name that a terminal would obey", 0, ["a\n\x1bb"], [listed(r"a\n\u{1b}b", 2, 7, 2, "Page 2")], [])
+    place.write(os.fsdecode(b"\xff"), unknown)
+    lists(place, "a name that is no text", 0, [b"\xff"], [listed(r"\xff", 2, 7, 2, "Page 2")], [])
+    with open("/dev/full", "wb") as full:
+        place.fails("no room for a line", 3, "standard output", ["page", "list", names[0]], out=None, stdout=full)
+    os.rmdir(place.at("directory"))
+    for name in (*names, *(set(bad) - {"page"}), "locked", "unknown", "-x", "a\n\x1bb", os.fsdecode(b"\xff")):
+        os.remove(place.at(name))
+
+
+def page_alterations(place):
+    """Every byte of a record; another key; the keys exchanged: OUT is what it was."""
+    page = place.read("page")
+    record = a_record(page)
+    place.write("tag.key", TAG_KEY.encode())
+    case = page_words("open", names=("-", "out"))
+    commands = {0, 5, 10, 43, *range(60, len(record), 17)}
+    for at in range(len(record)):
+        other = record[:at] + bytes([record[at] ^ 1 << at % 8]) + record[at + 1 :]
+        if at in commands:
+            place.fails(f"byte {at} altered", 1, f"standard input: {NO_RECORD}a command byte", case, given=other)
+        else:
+            place.fails(f"byte {at} altered", 4, f"standard input: {NO_TAG}: altered, or written under another tag key", case, given=other)
+    place.write("record", record)
+    for what, words in (
+        ("another tag key", page_words("open", tag_key="other.key", names=("record", "out"))),
+        ("the keys exchanged", page_words("open", key="tag.key", tag_key="key", names=("record", "out"))),
+        ("one key for both", page_words("open", tag_key="key", names=("record", "out"))),
+    ):
+        place.write("other.key", flipped(bytes.fromhex(TAG_KEY)).hex().encode())
+        place.fails(what, 4, f"record: {NO_TAG}", words)
+    # of another sealing key nothing tells
+    cipher = labyrinth.Labyrinth(1, flipped(bytes.fromhex(KEY)))
+    place.write("other.key", flipped(bytes.fromhex(KEY)).hex().encode())
+    opened = modes.cbc_decrypt(cipher, bytes.fromhex(START), RECORDS.parts(record).sealed)
+    place.works("another sealing key", page_words("open", key="other.key", names=("record", "out")), opened)
+    for name in ("record", "tag.key", "other.key", "out"):
+        os.remove(place.at(name))
+
+
+def page_refusals(place):
+    """Status 1: the numbers in their order, those of the keys, the title and the start block before IN is looked for; and every length of a body."""
+    record = a_record(place.read("page"))
+    place.write("tag.key", TAG_KEY.encode())
+    place.write("record", record)
+    long_title = "x" * 33
+    for way, name in (("write", "page"), ("open", "record")):
+        for l in (0, 1, 5, 258, (1 << 32) + 2, 1 << 61, (1 << 64) - 1, 10**30):
+            place.refuses(f"page {way}, l = {l}", 2, page_words(way, l=l, tag_l=2, names=(name, "out")))
+            place.refuses(f"page {way}, the tag key's l = {l}", 2, page_words(way, tag_l=l, names=(name, "out")))
+        for count in (0, 15, 17, 32):
+            place.write("other.key", b"ab" * count)
+            place.refuses(f"page {way}, a key of {count} bytes", 3, page_words(way, key="other.key", names=(name, "out")))
+            place.refuses(f"page {way}, a tag key of {count} bytes", 3, page_words(way, tag_key="other.key", names=(name, "out")))
+        more = dict(title=long_title, start="00", names=("missing", "out"))
+        for what, number, case in (
+            ("2 of the sealing key before its 3", 2, dict(l=9, key="other.key", tag_l=9, tag_key="other.key")), ("3 before 2 of the tag key", 3, dict(key="other.key", tag_l=9)),
+            ("2 of the tag key before its 3", 2, dict(tag_l=9, tag_key="other.key")), ("3 of the tag key before IN", 3, dict(tag_key="other.key")),
+        ):  # fmt: skip
+            place.refuses(f"page {way}, {what}", number, page_words(way, **case, **more))
+        which = [("the sealing key", dict(key="other.key")), ("the tag key", dict(tag_key="other.key"))]
+        for key, case in which:
+            place.fails(f"page {way}, the message", 1, f"labyrinth: {key}: refused with 3:", page_words(way, **case, names=(name, "out")))
+    place.refuses("19 before 6 and IN", 19, page_words(title=long_title, start="00", names=("missing", "out")))
+    place.refuses("6 before IN", 6, page_words(start="00", names=("missing", "out")))
+    place.refuses("6 before 4", 6, page_words(start="00", names=("odd", "out")))
+    place.refuses("4 before OUT", 4, page_words(names=("odd", "none/out")), out=None)
+    place.refuses("19 before OUT", 19, page_words("open", names=("page", "none/out")), out=None)
+    for title in (long_title, "\u0416" * 16 + "x", "\u0416" * 32, "x" * 1000):
+        place.refuses(f"a title of {len(title.encode())} bytes", 19, page_words(title=title))
+        place.fails("the message", 1, f"the title has more than 32 bytes (--title has {len(title.encode())} in UTF-8)", page_words(title=title))
+    for count in (0, 1, 15, 17, 32):
+        place.refuses(f"a start block of {count} bytes", 6, page_words(start="ab" * count))
+    for count in [*range(1, 50), 65535, 65537, 65552, 65553, MIB]:
+        if count % 16 or count > 65536:
+            place.write("in", bytes(count))
+            place.refuses(f"a body of {count} bytes", 4, page_words(names=("in", "out")))
+            why = f"IN has {count} bytes, and {-count % 16} are missing to the next whole block" if count < 65536 else "more than 4096 blocks of 16 bytes"
+            place.fails(f"a body of {count} bytes, the message", 1, why, page_words(names=("in", "out")))
+            place.fails(f"a body of {count} bytes, streams", 1, why, page_words(names=("-", "-")), out=None, given=bytes(count))
+    for name in ("tag.key", "record", "other.key", "in"):
+        os.remove(place.at(name))
+
+
+def page_usage(place):
+    """Status 2."""
+    place.write("tag.key", TAG_KEY.encode())
+    place.write("record", a_record(place.read("page")))
+    good = {"write": page_words(tag_l=2), "open": page_words("open", tag_l=2, names=("record", "out"))}
+    for way, words in good.items():
+        text = ("--number", "--day", "--title", "--start")
+        for option in ("-l", "--key-file", "--tag-key-file", *(text if way == "write" else ())):
+            i = words.index(option)
+            place.fails(f"page {way}, no {option}", 2, f"{option} is missing", words[:i] + words[i + 2 :])
+            place.fails(f"page {way}, {option} twice", 2, "twice", words + words[i : i + 2])
+            place.fails(f"page {way}, {option} without value", 2, "lacks its value", words[:i] + words[i + 2 :] + [option])
+        for option in ("--mode", "-n", "--offset", "--length", "--tag", *(text if way == "open" else ())):
+            place.fails(f"page {way} with {option}", 2, f"'page {way}' takes no {option}", [*words, option, "1"])
+        place.fails(f"page {way} with n", 2, "a page record is always at n = 1", [*words, "-n", "1"])
+        place.fails(f"page {way}, no OUT", 2, "where IN and OUT are wanted", words[:-1])
+        place.fails(f"page {way}, a word too many", 2, "where IN and OUT are wanted", [*words, "more"])
+        for what, case in (("IN", dict(names=("", "out"))), ("OUT", dict(names=("page", ""))), ("a key", dict(key="")), ("the tag key", dict(tag_key="")),
+                           ("a set", dict(tables="")), ("the tag key's set", dict(tag_tables=""))):  # fmt: skip
+            place.fails(f"page {way}, an empty name of {what}", 2, "name is empty", page_words(way, **case))
+        for case in (dict(key="-", names=("-", "out")), dict(key="-", tag_key="-"), dict(tag_key="-", names=("-", "out")), dict(tables="-", tag_tables="-"), dict(key="-", tag_tables="-")):
+            place.fails(f"page {way}, two from one stream", 2, "of the keys, the sets and IN only one can come from standard input", page_words(way, **case))
+        for l in ("", "-2", "two", "0x2"):
+            place.fails(f"page {way}, l = {l}", 2, "-l takes a number", page_words(way, l=l))
+            place.fails(f"page {way}, the tag key's l = {l}", 2, "--tag-l takes a number", page_words(way, tag_l=l))
+        for what, says, digits in (
+            ("odd digits", "odd number of hexadecimal digits (31)", KEY[:31]), ("no digits", "character 5 ", KEY[:4] + "x" + KEY[5:]), ("a long file", "more than 65536 bytes", "00" * 32769),
+        ):  # fmt: skip
+            place.write("wrong.key", digits.encode())
+            place.fails(f"page {way}, {what} in the key file", 2, says, page_words(way, key="wrong.key", names=words[-2:]))
+            place.fails(f"page {way}, {what} in the tag key's file", 2, says, page_words(way, tag_key="wrong.key", names=words[-2:]))
+        # one file twice
+        name, held = words[-2], place.read(words[-2])
+        published = b"".join(archivists_sets.PUBLISHED)
+        place.write("some.set", published)
+        os.link(place.at(name), place.at("hard"))
+        os.symlink(name, place.at("soft"))
+        for other in (name, "./" + name, "hard", "soft"):
+            place.fails(f"page {way}, IN is OUT by {other}", 2, "one file", page_words(way, names=(name, other)), out=other)
+        with open(place.at(name), "ab") as file:
+            place.fails(f"page {way}, standard output is IN", 2, "one file", page_words(way, names=(name, "-")), out="-", stdout=file)
+        for other in ("key", "tag.key"):
+            place.fails(f"page {way}, {other} is OUT", 2, "OUT is the key file", page_words(way, names=(name, other)), out=other)
+        for option in ("tables", "tag_tables"):
+            place.fails(f"page {way}, a set file is OUT", 2, "OUT is the set file", page_words(way, names=(name, "some.set"), **{option: "some.set"}), out="some.set")
+        if (place.read(name), place.read("key"), place.read("tag.key"), place.read("some.set")) != (held, KEY.encode(), TAG_KEY.encode(), published):
+            raise Wrong("a page, a key or a set was replaced")
+        for extra in ("hard", "soft", "wrong.key", "some.set"):
+            os.remove(place.at(extra))
+    for option in ("number", "day"):
+        for value in ("", "-1", "+1", "1.0", "x", "ff", 1 << 32, "0x100000000", 1 << 64, 10**30):
+            place.fails(f"{option} {value}", 2, f"--{option} takes a number below 2^32", page_words(**{option: value}))
+    for what, value in (("odd digits", "f" * 31), ("no digits", "fg" * 16), ("0x", "0x" + START)):
+        place.fails(f"{what} to --start", 2, "--start: ", page_words(start=value))
+    place.fails("a title that is no text", 2, "--title: not a text", page_words(title=b"\xff"))
+    for words in (["page"], ["page", ""], ["page", "read", "page"], ["page", "seal"], ["page", "write", "list"]):
+        place.fails(f"{words}", 2, "usage: labyrinth", words, out="-")
+    place.fails("a word after page", 2, "'write', 'list' or 'open' comes after 'page', not 'read'", ["page", "read"], out="-")
+    place.fails("a list of none", 2, "where FILE is wanted", ["page", "list"], out="-")
+    place.fails("an empty name in a list", 2, "name is empty", ["page", "list", "record", ""], out="-")
+    place.fails("standard input twice in a list", 2, "standard input stands twice", ["page", "list", "-", "record", "-"], out="-")
+    for option in ("-l", "--key-file", "--tag-key-file", "--set", "--tag-set", "--number", "--title", "--start", "--tag"):
+        place.fails(f"a list with {option}", 2, f"'page list' takes no {option}: it needs no key", ["page", "list", "record", option, "2"], out="-")
+    for option in ("--number", "--day", "--title", "--tag-l", "--tag-key-file", "--tag-set"):
+        for way, words in (("seal", globals()["words"]()), ("tag", tag_words()), ("wrap", wrap_words())):
+            place.fails(f"{way} with {option}", 2, f"'{way}' takes no {option}", [*words, option, "1"])
+    for name in ("tag.key", "record"):
+        os.remove(place.at(name))
+
+
+def page_files(place):
+    """Status 3; and OUT is never half-written."""
+    place.write("tag.key", TAG_KEY.encode())
+    place.write("record", a_record(place.read("page")))
+    os.mkdir(place.at("directory"))
+    os.mkfifo(place.at("fifo"))
+    os.symlink("nowhere", place.at("dangling"))
+    place.write("locked", b"")
+    os.chmod(place.at("locked"), 0o000)
+    for way, name in (("write", "page"), ("open", "record")):
+        for option, file in (("key", "missing.key"), ("tag_key", "missing.key"), ("tables", "missing.set"), ("tag_tables", "missing.set")):
+            place.fails(f"page {way}, no {file}", 3, file, page_words(way, names=(name, "out"), **{option: file}))
+        for other in ("missing", "."):
+            place.fails(f"page {way}, IN is {other}", 3, f"labyrinth: {other}: ", page_words(way, names=(other, "out")))
+        place.fails(f"page {way}, IN that can't be read", 3, "ermission denied", page_words(way, names=("locked", "out")), **somebody())
+        for other in ("directory", "fifo", "dangling", "/dev/null", "none/out", "page/out", "x" * 300):
+            place.fails(f"page {way}, OUT is {other}", 3, f"labyrinth: {other}: ", page_words(way, names=(name, other)), out=other)
+        os.chmod(place.at("directory"), 0o555)
+        inside = page_words(way, names=(name, "directory/out"))
+        place.fails(f"page {way}, OUT where none can be written", 3, "ermission denied", inside, out="directory/out", **somebody())
+        os.chmod(place.at("directory"), 0o777)
+        if os.listdir(place.at("directory")):
+            raise Wrong("something was written where it may not")
+        with open("/dev/full", "wb") as full:
+            place.fails(f"page {way}, no room behind standard output", 3, "standard output", page_words(way, names=(name, "-")), out="-", stdout=full)
+        for most in (0, 8, 40):
+            less = lambda: resource.setrlimit(resource.RLIMIT_FSIZE, (most, most))
+            place.fails(f"page {way}, room for {most} bytes of OUT", 3, "labyrinth: out: ", page_words(way, names=(name, "out")), preexec_fn=less)
+    os.rmdir(place.at("directory"))
+    for extra in ("tag.key", "record", "fifo", "dangling", "locked"):
+        os.remove(place.at(extra))
+
+
+def page_sets(place, alter=lambda data: data):
+    """Records with other tables, for both keys, for one, or each its own; and sets that are refused."""
+    body = some_body(3)
+    place.write("tag.key", TAG_KEY.encode())
+    place.write("body", body)
+    one, two, published = archivists_sets.OTHERS[0], archivists_sets.OTHERS[1], archivists_sets.PUBLISHED
+    for name, tables in (("one.set", one), ("two.set", two), ("published.set", published)):
+        place.write(name, b"".join(tables).hex().encode())
+    for what, options, tables in (
+        ("both", dict(tables="one.set"), (one, one)), ("each its own", dict(tables="one.set", tag_tables="two.set"), (one, two)),
+        ("the tag key's", dict(tag_tables="two.set"), (published, two)), ("the sealing key's", dict(tables="two.set", tag_tables="published.set"), (two, published)),
+        ("one twice", dict(tables="two.set", tag_tables="two.set"), (two, two)),
+    ):  # fmt: skip
+        record = a_record(body, tables=tables[0], tag_tables=tables[1])
+        place.works(f"written with other tables, {what}", page_words(**options, names=("body", "-")), alter(record), out="-")
+        place.works(f"opened with other tables, {what}", page_words("open", **options, names=("-", "-")), alter(body), out="-", given=record)
+        place.works(f"listed, whatever the tables, {what}", ["page", "list", "-"], listed("-"), out="-", given=record)
+        if tables[1] is not published:
+            place.fails(f"by the published tables, {what}", 4, NO_TAG, page_words("open", names=("-", "out")), given=record)
+    place.works("a set from standard input", page_words(tables="-", names=("body", "out")), alter(a_record(body, tables=one, tag_tables=one)), given=b"".join(one))
+    os.remove(place.at("out"))
+    twice, none = bytes(256) + one[1], one[0] + bytes(8)
+    place.write("other.key", b"ab" * 15)
+    for what, number, data in (("one byte 256 times", 14, twice), ("a row of zeros", 13, none)):
+        place.write("wrong.set", data.hex().encode())
+        for options in (dict(tables="wrong.set"), dict(tag_tables="wrong.set"), dict(tables="one.set", tag_tables="wrong.set")):
+            for way in ("write", "open"):
+                place.refuses(f"page {way} by a set of {what}", number, page_words(way, **options, l=9, key="other.key", names=("missing", "out")))
+    for name in ("tag.key", "body", "one.set", "two.set", "published.set", "wrong.set", "other.key"):
+        os.remove(place.at(name))
+
+
 def forms(place):
     """Ways to write one thing."""
     page = place.read("page")
@@ -576,11 +1000,11 @@ def forms(place):
 
 
 def help_page(place):
-    """The card and the lines in the help tag, verify and open a page that the archivists' program sealed and tagged so; and a key is wrapped and
-    unwrapped by its lines."""
+    """The card and the lines in the help tag, verify and open a page that the archivists' program sealed and tagged so; a key is wrapped and
+    unwrapped by its lines, and a record written, listed and opened."""
     text = place.run(["--help"]).stdout.decode()
-    forms = re.findall(r"^    (labyrinth (?:seal|tag|verify|wrap).* IN.*)$", text, re.M)
-    if len(forms) != 4 or any(form not in place.run([]).stderr.decode() for form in forms):
+    forms = re.findall(r"^    (labyrinth (?:seal|tag|verify|wrap|page).* (?:IN|FILE\.\.).*)$", text, re.M)
+    if len(forms) != 7 or any(form not in place.run([]).stderr.decode() for form in forms):
         raise Wrong("the help and the usage message differ")
     n, l, start, q = re.search(r"n = (\d), l = (\d), CTR, start block ([0-9a-f ]+), q = (\d+),", text).groups()
     key = re.search(r"^ +key ([0-9a-f ]+)$", text, re.M).group(1)
@@ -611,7 +1035,21 @@ def help_page(place):
     place.works("the help's line to wrap", shlex.split(wrap), line(wrapped(bytes.fromhex(key), KEY * 2)), out="card.wrapped")
     place.write("card.key", b"")
     place.works("the help's line to unwrap", shlex.split(unwrap), line(bytes.fromhex(key)), out="card.key")
-    for name in ("card.key", "tag.key", "page.sealed", "master.key", "card.wrapped"):
+    for name in ("page.sealed", "master.key", "card.wrapped"):
+        os.remove(place.at(name))
+    kept = place.read("page")
+    write = re.search(r"^ +(labyrinth page write -l 2 .*\\\n.* page page17)$", text, re.M).group(1)
+    listing, opening = (re.search(rf"^ +labyrinth (page {way} .*page17.*)$", text, re.M).group(1) for way in ("list", "open"))
+    title = "Of the harbour, second part"
+    record = a_record(kept, title=title, start=start.replace(" ", ""), key=key, tag_key=tag_key)
+    place.works("the help's line to write a record", ["-c", write], record, out="page17", **shell)
+    for other in ("page18", "page19"):
+        place.write(other, record)
+    lines = b"".join(listed(f"page{i}", title=title) for i in (17, 18, 19))
+    place.works("the help's line to list records", shlex.split(listing), lines, out="-")
+    place.write("page", OLD)
+    place.works("the help's line to open a record", shlex.split(opening), kept, out="page")
+    for name in ("card.key", "tag.key", "page17", "page18", "page19"):
         os.remove(place.at(name))
     with open("/dev/full", "wb") as full:
         place.fails("help to a full disk", 3, "standard output", ["--help"], out="-", stdout=full)
@@ -939,18 +1377,19 @@ def main():
         try:
             tag_parts = (tag_vectors, tag_forms, altered_pages, tag_refusals, tag_usage, tag_files)
             wrap_parts = (wrap_vectors, wrap_forms, wrap_refusals, wrap_usage, wrap_files)
-            for part in (vectors, forms, help_page, refusals, usage, files, ended, progress, *tag_parts, *wrap_parts, sets, set_files):
+            page_parts = (page_vectors, page_forms, page_list, page_alterations, page_refusals, page_usage, page_files, page_sets)
+            for part in (vectors, forms, help_page, refusals, usage, files, ended, progress, *tag_parts, *wrap_parts, sets, set_files, *page_parts):
                 part(place)
                 if place.names() != held:
                     raise Wrong(f"{part.__name__} left {place.names()}")
             count = place.count
-            for part in (vectors, tag_vectors, wrap_vectors, sets):
+            for part in (vectors, tag_vectors, wrap_vectors, sets, page_vectors, page_sets):
                 altered(Place(tempfile.mkdtemp(dir=path)), part)
         except Wrong as wrong:
             sys.exit(f"command: FAILED: {wrong}")
     if count != COUNT:
         sys.exit(f"command: FAILED: {count} checks, not {COUNT}")
-    print(f"command: {count} checks, and an altered byte, tag or key is noticed")
+    print(f"command: {count} checks, and an altered byte, tag, key or record is noticed")
 
 
 if __name__ == "__main__":

@@ -1,5 +1,5 @@
 #!/usr/bin/env bash
-# The Rust crate and the command, offline: builds both, runs their tests and the example, holds the example to the archivists' program
+# The Rust crate and the command, offline: builds both, runs their tests and the examples, holds the examples to the archivists' program
 # and the crate's declarations to include/labyrinth.h, then tries the command (tests/command.py). Needs what `make lib` makes.
 set -u
 cd "$(dirname "$0")/.." || exit 1
@@ -22,7 +22,7 @@ quietly cargo build --offline --locked --release --workspace --examples --bins |
 # ---- the tests of both crates
 quietly cargo test --offline --locked --release --workspace || wrong "cargo test"
 passed=$(awk '/^test result: ok/ { n += $4 } END { print n + 0 }' "$work/log")
-[ "$passed" -eq 34 ] || wrong "cargo test: $passed tests passed, not 34"
+[ "$passed" -eq 43 ] || wrong "cargo test: $passed tests passed, not 43"
 
 # ---- without the archive the build says what to do; LABYRINTH_DIST says where it is
 mkdir "$work/none" "$work/dist" && cp "$root/target/dist/liblabyrinth.a" "$work/dist" || exit 1
@@ -37,7 +37,8 @@ python3 - include/labyrinth.h rust/labyrinth/src/lib.rs <<'P' || wrong "the crat
 import re
 import sys
 
-TYPES = {"size_t": "usize", "uint8_t": "u8", "uint64_t": "u64", "const uint8_t *": "*const u8", "uint8_t *": "*mut u8", "uint64_t *": "*mut u64"}
+TYPES = {"size_t": "usize", "uint8_t": "u8", "uint32_t": "u32", "uint64_t": "u64", "const uint8_t *": "*const u8", "uint8_t *": "*mut u8"}
+TYPES |= {"uint32_t *": "*mut u32", "uint64_t *": "*mut u64"}
 header, crate = (open(name).read() for name in sys.argv[1:])
 declared = set()
 for result, name, parameters in re.findall(r"^(\w+) (labyrinth_\w+)\(([^)]*)\);", header, re.M):
@@ -45,11 +46,11 @@ for result, name, parameters in re.findall(r"^(\w+) (labyrinth_\w+)\(([^)]*)\);"
     declared.add(f"{name}({', '.join(f'{word}: {TYPES[kind.strip()]}' for kind, word in parts)}) -> {TYPES[result]}")
 block = re.search(r'extern "C" \{(.*?)\n\}', crate, re.S).group(1)
 taken = {re.sub(r"\s+", " ", t).replace("( ", "(").replace(", )", ")") for t in re.findall(r"fn (.*?);", block, re.S)}
-if len(declared) != 27 or declared != taken:
+if len(declared) != 30 or declared != taken:
     sys.exit(f"rust: the header and the crate differ: {sorted(declared ^ taken)}")
 P
 
-# ---- the example, and what it sealed and tagged by the archivists' program; an altered tag or page is noticed
+# ---- the examples, and what they sealed and tagged by the archivists' program; an altered tag, page or record is noticed
 "target/rust/release/examples/page" >"$work/page" || wrong "the example"
 agrees() {
     python3 -B - "$1" <<'P'
@@ -84,8 +85,34 @@ for part in sealed tag; do
     done
 done
 
+"target/rust/release/examples/record" >"$work/record" || wrong "the example of a record"
+record_agrees() {
+    python3 -B - "$1" <<'P'
+import sys
+
+sys.path[:0] = ["tests", "tests/archivists"]
+import labyrinth
+import page_records
+
+words = open(sys.argv[1]).read().split()
+said = dict(zip(words[1::2], words[2::2]))
+key, tag_key, title, start, body = (bytes.fromhex(said[name]) for name in ("key", "tag_key", "title", "start", "body"))
+if len(key) != 8 * int(said["l"]) or len(tag_key) != 8 * int(said["tag_l"]):
+    sys.exit("rust: a key of the example has another length")
+sealing, tagging = (labyrinth.Labyrinth(1, one) for one in (key, tag_key))
+if page_records.Records().written(sealing, tagging, int(said["number"]), int(said["day"]), title, start, body).hex() != said["written"]:
+    sys.exit("rust: the example's record is not what the archivists' program makes")
+P
+}
+record_agrees "$work/record" || wrong "the example's record"
+for part in number day title start body written; do
+    sed 's/ '$part' 1/ '$part' 2/;t;s/ '$part' ./ '$part' 1/' "$work/record" >"$work/altered"
+    ! cmp -s "$work/record" "$work/altered" || wrong "the example shows no $part"
+    ! record_agrees "$work/altered" 2>/dev/null || wrong "an altered $part passed"
+done
+
 # ---- the command
 tests/command.py || wrong "the command"
 
 [ "$status" -eq 0 ] || { echo "rust: FAILED"; exit 1; }
-echo "rust: both crates built, $passed tests, the example, the declarations and the command: all as expected"
+echo "rust: both crates built, $passed tests, the examples, the declarations and the command: all as expected"
