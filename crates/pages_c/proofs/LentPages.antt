@@ -19,6 +19,13 @@ use Rattle.pages_c.specs.LentPages.{lentKeysNumber, titleAt}
 
 -- ---- a store and two working keys
 
+-- 4 unless the store and the sealing key have their lengths, then 4 unless the tag key has it, then the further checks
+pub keys-plain : {more : Type 0} (store sealing tagging : List ℕ) (further : ℕ) {r : ℕ} → r ≡ lentKeysNumber store sealing tagging further → (r ≡ further → more)
+    → Unless ((length store ≡ 1072) × (length sealing ≡ 272)) (r ≡ 4) (Unless ((length store ≡ 1072) × (length tagging ≡ 272)) (r ≡ 4) more)
+unfolding lentKeysNumber
+keys-plain store sealing tagging further e f =
+    records-plain (length store) (length sealing) _ e (λ e. records-plain (length store) (length tagging) further e f)
+
 -- what is made of a store and two keys is made alike of those that are lent
 by-lent : {A : Type 0} (f : Store → WorkingKey → WorkingKey → A) {s t : Store} {k l j i : WorkingKey} → s ≡ t → k ≡ l → j ≡ i → f s k j ≡ f t l i
 by-lent f {t = t} {l = l} {j = j} x y z = ap₂ (λ (s : Store) (k : WorkingKey). f s k j) x y ∙ ap (λ (j : WorkingKey). f t l j) z
