@@ -1,5 +1,5 @@
 /* Times the proved code against C in several shapes and OpenSSL's Camellia and ARIA at n = 1, 2 and 4: many blocks each by itself, both
-   ways, and runs by CBC and CTR; then tags, wrapped keys, runs of all lengths, expansion, short runs, mixing, merged tables, the product and inverse
+   ways, and runs by CBC and CTR; then tags, wrapped keys, page records, runs of all lengths, expansion, short runs, mixing, merged tables, the product and inverse
    of rows, and a verdict on a row. Always the best of several passes, all in turn.
    First C must give the same bytes. Times are of the processor given to the thread, so that other work disturbs them little; short runs go
    by the clock, which is read faster. It assumes Linux on x86-64. */
@@ -23,6 +23,13 @@ uint8_t sigourta_wrap(const uint64_t words[32], const uint8_t *key, size_t lengt
 uint8_t sigourta_unwrap(const uint64_t words[32], const uint8_t *wrapped, size_t wrapped_length, uint8_t *key, size_t length);
 void sigourta_block_calls(const uint64_t words[32], uint8_t pairs, uint8_t *one, size_t one_length, uint8_t *two, size_t two_length);
 uint8_t sigourta_make_table(const uint8_t row[8], uint64_t *table, size_t table_length);
+uint8_t labyrinth_store_fresh(uint8_t *store, size_t store_length);
+uint8_t labyrinth_key_cbc_seal(const uint8_t *store, size_t store_length, const uint8_t *working, size_t working_length, const uint8_t *start, size_t start_length, const uint8_t *src, size_t src_length, uint8_t *dst, size_t dst_length);
+uint8_t labyrinth_key_cbc_open(const uint8_t *store, size_t store_length, const uint8_t *working, size_t working_length, const uint8_t *start, size_t start_length, const uint8_t *src, size_t src_length, uint8_t *dst, size_t dst_length);
+uint8_t labyrinth_key_cmac(const uint8_t *store, size_t store_length, const uint8_t *working, size_t working_length, const uint8_t *message, size_t length, uint8_t *tag, size_t tag_length);
+uint8_t labyrinth_key_cmac_verify(const uint8_t *store, size_t store_length, const uint8_t *working, size_t working_length, const uint8_t *message, size_t length, const uint8_t *tag, size_t tag_length, uint8_t *yes);
+uint8_t labyrinth_page_write(const uint8_t *store, size_t store_length, const uint8_t *sealing, size_t sealing_length, const uint8_t *tagging, size_t tagging_length, uint32_t number, uint32_t day, const uint8_t *title, size_t title_length, const uint8_t *start, size_t start_length, const uint8_t *body, size_t body_length, uint8_t *dst, size_t dst_length);
+uint8_t labyrinth_page_open(const uint8_t *store, size_t store_length, const uint8_t *sealing, size_t sealing_length, const uint8_t *tagging, size_t tagging_length, const uint8_t *record, size_t record_length, uint8_t *dst, size_t dst_length);
 uint64_t labyrinth_mix(uint64_t word);
 uint8_t labyrinth_mix_row(const uint8_t *row, size_t row_length, uint64_t word, uint64_t *out);
 uint8_t labyrinth_row_product(const uint8_t *g, size_t g_length, const uint8_t *h, size_t h_length, uint8_t *dst, size_t dst_length);
@@ -271,6 +278,96 @@ static void wraps(void) {
     }
 }
 
+/* who writes a page record or opens one: ours, C by one table and by eight; and ours for the parts alone: a CBC run of the page's bytes, a tag of as many, and
+   a tag of those that are tagged */
+enum { PAGE, PAGE_ONE, PAGE_EIGHT, PAGE_RUN, PAGE_TAG, PAGE_TAGGED, PAGERS };
+enum { MOST = 4096, RECORD = 77 + 17 * MOST };
+
+static uint8_t store[1072], sealing_key[272], tag_key[272];
+
+/* working keys of n = 1 and set 0: the words, and for the tag key others */
+static void page_keys(void) {
+    labyrinth_store_fresh(store, sizeof store);
+    sealing_key[0] = tag_key[0] = 1;
+    memcpy(sealing_key + 16, words, sizeof words);
+    memcpy(tag_key + 16, words + 8, sizeof words - 64);
+}
+
+#define SEALING store, sizeof store, sealing_key, sizeof sealing_key
+#define TAGGING tag_key, sizeof tag_key
+
+/* body and record are where they are read and written; the answer is 0 if it was done */
+static uint8_t run_page(int who, int back, size_t blocks, uint8_t *body, uint8_t *record) {
+    uint64_t seals[80], tags[80];
+    size_t length = 77 + 17 * blocks, tagged = who == PAGE_TAG ? 16 * blocks : length - 17;
+    uint8_t tag[16] = {0}, yes;
+    switch (who) {
+    case PAGE:
+        return back ? labyrinth_page_open(SEALING, TAGGING, record, length, body, 16 * blocks)
+                    : labyrinth_page_write(SEALING, TAGGING, 1, 2, input, 32, start, 16, body, 16 * blocks, record, length);
+    case PAGE_RUN:
+        return back ? labyrinth_key_cbc_open(SEALING, start, 16, record, 16 * blocks, body, 16 * blocks)
+                    : labyrinth_key_cbc_seal(SEALING, start, 16, body, 16 * blocks, record, 16 * blocks);
+    case PAGE_TAG:
+    case PAGE_TAGGED:
+        return back ? labyrinth_key_cmac_verify(store, sizeof store, TAGGING, record, tagged, tag, 16, &yes)
+                    : labyrinth_key_cmac(store, sizeof store, TAGGING, record, tagged, tag, 16);
+    }
+    lab_schedule(1, words, back, seals);
+    lab_schedule(1, words + 8, 0, tags);
+    if (back) return lab_page_open(who == PAGE_ONE ? LAB_ONE : LAB_EIGHT, seals, tags, record, length, body) ? 0 : 20;
+    lab_page_write(who == PAGE_ONE ? LAB_ONE : LAB_EIGHT, seals, tags, 1, 2, input, start, body, blocks, record);
+    return 0;
+}
+
+/* C in both shapes writes our records and opens them, and both refuse an altered one; 0 if not */
+static int same_pages(void) {
+    page_keys();
+    for (size_t blocks = 0; blocks <= MOST; blocks += blocks < 20 ? 1 : 679) {
+        size_t length = 77 + 17 * blocks;
+        for (int who = PAGE_ONE; who <= PAGE_EIGHT; who++) {
+            int same = run_page(PAGE, 0, blocks, input, by_us) == 0 && run_page(who, 0, blocks, input, by_c) == 0 && memcmp(by_us, by_c, length) == 0;
+            for (int us = 0; us < 2; us++) {
+                memset(by_us + RECORD, 0, 16 * MOST);
+                same &= run_page(us ? PAGE : who, 1, blocks, by_us + RECORD, by_c) == 0 && memcmp(by_us + RECORD, input, 16 * blocks) == 0;
+            }
+            by_c[length - 1] ^= 1;
+            same &= run_page(PAGE, 1, blocks, by_us + RECORD, by_c) == 20 && run_page(who, 1, blocks, by_us + RECORD, by_c) == 20;
+            if (!same) {
+                printf("page records of %zu blocks, C's shape %d: DIFFER\n", blocks, who - PAGE_ONE);
+                return 0;
+            }
+        }
+    }
+    return 1;
+}
+
+static void pages(void) {
+    static const size_t SIZE[] = {1, 16, 256, MOST};
+    printf("Page records at n = 1 under expanded keys, through the C interface, us for one; behind it ours / ours for a CBC run of the page's bytes and a tag of\n");
+    printf("as many, and / ours for that run and a tag of the bytes that are tagged, 60 and 17 a block; and C's time by the same loops / ours.\n");
+    printf("        written   /as many   /tagged   1 table  8 tables     opened   /as many   /tagged   1 table  8 tables\n");
+    for (int i = 0; i < 4; i++) {
+        double best[2][PAGERS] = {{0}};
+        int calls = (int)(MOST / SIZE[i] < 64 ? MOST / SIZE[i] : 64);
+        run_page(PAGE, 0, SIZE[i], input, by_c);
+        for (int pass = 0; pass < 100; pass++)
+            for (int back = 0; back < 2; back++)
+                for (int who = 0; who < PAGERS; who++) {
+                    double began = now();
+                    for (int j = 0; j < calls; j++) run_page(who, back, SIZE[i], back ? by_us + RECORD : input, back ? by_c : by_us);
+                    keep(&best[back][who], (now() - began) / calls);
+                }
+        printf("%4zu", SIZE[i]);
+        for (int back = 0; back < 2; back++) {
+            double *b = best[back];
+            printf("  %9.2f  %9.3f  %8.3f  %8.2f  %8.2f", b[PAGE] / 1000, b[PAGE] / (b[PAGE_RUN] + b[PAGE_TAG]), b[PAGE] / (b[PAGE_RUN] + b[PAGE_TAGGED]),
+                   b[PAGE_ONE] / b[PAGE], b[PAGE_EIGHT] / b[PAGE]);
+        }
+        printf("\n");
+    }
+}
+
 /* ns for one of many calls, so that reading the clock weighs little */
 static double run_often(int kind, int n, size_t length) {
     size_t calls = length < 65536 ? 65536 / length : 1;
@@ -496,11 +593,12 @@ int main(void) {
     for (int kind = 0; kind < KINDS; kind++)
         for (int size = 0; size < 3; size++)
             if (!same_bytes(kind, 1 << size)) return 1;
-    if (!same_tags() || !same_wraps() || !same_mixed() || !same_rows() || !same_verdicts()) return 1;
+    if (!same_tags() || !same_wraps() || !same_pages() || !same_mixed() || !same_rows() || !same_verdicts()) return 1;
     if (others_version() && !(others_work(CAMELLIA) && others_work(ARIA))) return 1;
     ratios();
     tags();
     wraps();
+    pages();
     growth();
     expansion();
     short_runs();

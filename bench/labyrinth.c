@@ -348,6 +348,46 @@ int lab_unwrap(enum lab_shape shape, const uint64_t *k, const uint8_t *wrapped, 
     return shape == LAB_ONE ? unwrap_(0, k, wrapped, length, key) : unwrap_(1, k, wrapped, length, key);
 }
 
+/* the sealed blocks of a record, one after another */
+static uint8_t gathered[16 * 4096];
+
+static void four_bytes(uint8_t *record, uint8_t command, uint32_t value) {
+    *record++ = command;
+    for (int i = 0; i < 4; i++) *record++ = (uint8_t)(value >> 8 * i);
+}
+
+void lab_page_write(enum lab_shape shape, const uint64_t *sealing, const uint64_t *tagging, uint32_t number, uint32_t day, const uint8_t title[32], const uint8_t start[16], const uint8_t *body, size_t blocks, uint8_t *record) {
+    uint8_t *at = record + 60;
+    four_bytes(record, 0x10, number);
+    four_bytes(record + 5, 0x11, day);
+    record[10] = 0x12;
+    memcpy(record + 11, title, 32);
+    record[43] = 0x13;
+    memcpy(record + 44, start, 16);
+    lab_run(shape, LAB_CBC_SEAL, 1, sealing, start, body, gathered, blocks);
+    for (size_t i = 0; i < blocks; i++, at += 17) {
+        *at = 0x15;
+        memcpy(at + 1, gathered + 16 * i, 16);
+    }
+    *at = 0x1F;
+    lab_tag(shape, tagging, record, 60 + 17 * blocks, at + 1);
+}
+
+int lab_page_open(enum lab_shape shape, const uint64_t *sealing, const uint64_t *tagging, const uint8_t *record, size_t length, uint8_t *body) {
+    size_t blocks = (length - 77) / 17;
+    const uint8_t *at = record + 60;
+    uint8_t tag[16];
+    if (length < 77 || (length - 77) % 17 != 0 || blocks > 4096) return 0;
+    if (record[0] != 0x10 || record[5] != 0x11 || record[10] != 0x12 || record[43] != 0x13 || record[length - 17] != 0x1F) return 0;
+    for (size_t i = 0; i < blocks; i++)
+        if (at[17 * i] != 0x15) return 0;
+    lab_tag(shape, tagging, record, length - 17, tag);
+    if (memcmp(tag, record + length - 16, 16) != 0) return 0;
+    for (size_t i = 0; i < blocks; i++) memcpy(gathered + 16 * i, at + 17 * i + 1, 16);
+    lab_run(shape == LAB_ONE ? LAB_ONE_PAIRS : LAB_EIGHT_MOST, LAB_CBC_OPEN, 1, sealing, record + 44, gathered, body, blocks);
+    return 1;
+}
+
 const uint8_t lab_row[8] = {0x01, 0x01, 0x03, 0x0F, 0x0A, 0x1F, 0x0F, 0x0C};
 
 INLINE uint8_t times(uint8_t a, uint8_t b) {

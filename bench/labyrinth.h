@@ -18,6 +18,10 @@ void lab_tag(enum lab_shape shape, const uint64_t *k, const uint8_t *message, si
 /* KW of a key at n = 1, whole semiblocks, and back, block by block, by one table or by eight; unwrapping answers whether the check value is right */
 void lab_wrap(enum lab_shape shape, const uint64_t *k, const uint8_t *key, size_t length, uint8_t *wrapped);
 int lab_unwrap(enum lab_shape shape, const uint64_t *k, const uint8_t *wrapped, size_t length, uint8_t *key);
+/* a page record of up to 4096 blocks, written, and opened if its layout and its tag are right (0 if not); the schedules are those of the sealing key,
+   for opening the one for deciphering, and of the tag key. Tagged and sealed block by block, by one table or by eight; opened two side by side, or four */
+void lab_page_write(enum lab_shape shape, const uint64_t *sealing, const uint64_t *tagging, uint32_t number, uint32_t day, const uint8_t title[32], const uint8_t start[16], const uint8_t *body, size_t blocks, uint8_t *record);
+int lab_page_open(enum lab_shape shape, const uint64_t *sealing, const uint64_t *tagging, const uint8_t *record, size_t length, uint8_t *body);
 /* mixing by the published row's matrix, product by product, the loop of each ending after the multiplier's highest one; by any row, all bytes
    of the word at once, eight turns always; and the merged table of a row, the product of two rows and the inverse row, made so too */
 extern const uint8_t lab_row[8];

@@ -33,13 +33,12 @@ import labyrinth
 import modes
 import papers
 from archivists_sets import OTHERS, PUBLISHED
+from lines import Wrong, altered_vectors, asked, differences, line, program
 from page_records import Cipher, Records
 from papers import STORE, WORKING, record_length
 
 ROOT = os.path.dirname(HERE)
-DIST = os.path.join(ROOT, "target", "dist")
 SEED = 9
-LIMIT = 120  # seconds for the program
 LARGE = 2**64 - 1
 RIGHT = Records()
 
@@ -48,10 +47,6 @@ COUNTS = {
     "example": 6, "sizes": 66, "keys": 216, "lengths": 418, "changed, listed": 32640, "changed, opened": 1280, "cut, longer": 1568,
     "blocks moved": 44, "faults": 6912, "two faults of layout": 288, "any bytes": 600, "longest": 39,
 }  # fmt: skip
-
-
-class Wrong(Exception):
-    pass
 
 
 # ---- what is expected
@@ -102,10 +97,6 @@ def expected(request, rules=RIGHT):
         number = rules.reading(*keys, blocks, lambda: rules.right(*made(), page), len(destination))
         answer = None if number else rules.opened(*made(), page)
     return f"{number} {(destination if number else answer).hex() or '-'}"
-
-
-def line(request):
-    return " ".join((field.hex() or "-") if isinstance(field, bytes) else str(field) for field in request) + "\n"
 
 
 def expanded(tables, key):
@@ -531,29 +522,6 @@ def definitions():
 # ---- asking and comparing
 
 
-def program(place):
-    library, path = os.path.join(DIST, "liblabyrinth.a"), os.path.join(place, "labyrinth_lines")
-    if not os.path.exists(library):
-        raise Wrong("no target/dist/liblabyrinth.a: make lib")
-    words = ["gcc", "-std=c11", "-O2", "-Wall", "-Wextra", "-Werror", "-I", DIST, "-o", path, os.path.join(HERE, "labyrinth_lines.c"), library]
-    if subprocess.run(words).returncode:
-        raise Wrong("labyrinth_lines.c was not built")
-    return path
-
-
-def asked(path, requests):
-    """The program's answers."""
-    with tempfile.TemporaryFile("w+") as given, tempfile.TemporaryFile("w+") as made:
-        given.writelines(map(line, requests))
-        given.seek(0)
-        status = subprocess.run([path], stdin=given, stdout=made, timeout=LIMIT).returncode
-        made.seek(0)
-        answers = made.read().split("\n")
-    if answers.pop() != "" or status != 0 or len(answers) != len(requests):
-        raise Wrong(f"status {status}, {len(answers)} answers to {len(requests)} requests")
-    return answers
-
-
 def read_back(requests, answers):
     """What the library wrote, read by both readers of tests/page_records.py: how many records, and what is wrong."""
     count, wrong = 0, []
@@ -579,22 +547,6 @@ def gaps(requests, numbers):
     need = {"page_write": {0, 1, 4, 5, 6, 12, 15, 19}, "page_open": {0, 1, 4, 5, 12, 15, 19, 20}, "page_catalogue": {0, 19}}
     have = {(request[0], number) for request, number in zip(requests, numbers)}
     return sorted((op, number) for op in need for number in need[op] if (op, number) not in have)
-
-
-def differences(answers, wanted):
-    return [at for at in range(len(wanted)) if answers[at] != wanted[at]]
-
-
-def altered_vectors(kinds, wanted):
-    """Expected answers altered, two of each kind: the last answer's number, and the last digit of the one before. Their places, and the whole."""
-    places, whole = [], list(wanted)
-    for kind in set(kinds):
-        *_, before, last = (at for at, one in enumerate(kinds) if one == kind)
-        number, _, rest = whole[last].partition(" ")
-        whole[last] = f"{(int(number) + 1) % 21} {rest}"
-        whole[before] = whole[before][:-1] + ("1" if whole[before][-1] == "0" else "0")
-        places += [before, last]
-    return sorted(places), whole
 
 
 def altered(request):

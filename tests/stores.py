@@ -34,11 +34,10 @@ import labyrinth
 import modes
 import papers
 from archivists_sets import OTHERS, PUBLISHED
+from lines import Wrong, altered_vectors, asked, differences, line, program
 from papers import SIZES, STORE, TAG_LENGTHS, WORKING
 
-DIST = os.path.join(os.path.dirname(HERE), "target", "dist")
 SEED = 7
-LIMIT = 300  # seconds for the program
 LARGE = 2**64 - 1
 CALLS, SHORT = 10000, 50
 
@@ -55,10 +54,6 @@ COUNTS = {
     "history": CALLS, "histories by hand": 42 * SHORT, "isolation": 8000,
 }  # fmt: skip
 OUTSIDE = (4, 5, 255, 256, 2**32, 2**32 + 1, LARGE)  # sets outside a store; some are inside once bits are lost
-
-
-class Wrong(Exception):
-    pass
 
 
 # ---- what is expected
@@ -139,10 +134,6 @@ def expected(request, kind=Kiosk):
     if request[0] == "key_cmac_verify":
         return f"{number} {int(number == 0 and bytes_of() == request[-1])}"
     return f"{number} {(request[-1] if number else bytes_of()).hex() or '-'}"
-
-
-def line(request):
-    return " ".join((field.hex() or "-") if isinstance(field, bytes) else str(field) for field in request) + "\n"
 
 
 # ---- vectors of the three other sets
@@ -659,29 +650,6 @@ def wrong_rules():
 # ---- asking and comparing
 
 
-def program(place):
-    library, path = os.path.join(DIST, "liblabyrinth.a"), os.path.join(place, "labyrinth_lines")
-    if not os.path.exists(library):
-        raise Wrong("no target/dist/liblabyrinth.a: make lib")
-    words = ["gcc", "-std=c11", "-O2", "-Wall", "-Wextra", "-Werror", "-I", DIST, "-o", path, os.path.join(HERE, "labyrinth_lines.c"), library]
-    if subprocess.run(words).returncode:
-        raise Wrong("labyrinth_lines.c was not built")
-    return path
-
-
-def asked(path, requests):
-    """The program's answers."""
-    with tempfile.TemporaryFile("w+") as given, tempfile.TemporaryFile("w+") as made:
-        given.writelines(map(line, requests))
-        given.seek(0)
-        status = subprocess.run([path], stdin=given, stdout=made, timeout=LIMIT).returncode
-        made.seek(0)
-        answers = made.read().split("\n")
-    if answers.pop() != "" or status != 0 or len(answers) != len(requests):
-        raise Wrong(f"status {status}, {len(answers)} answers to {len(requests)} requests")
-    return answers
-
-
 def gaps(requests, numbers):
     """Which operations never gave which of their numbers, among these requests."""
     need = {"store_load": {0, 4, 13, 14, 15, 16}, "store_take": {0, 15}, "expand": {0, 1, 2, 3, 4, 15}}
@@ -705,22 +673,6 @@ def cases(seed):
     for _, store in by_hand():
         made += [("histories by hand", request) for _, request in History(rng, store).calls(SHORT)]
     return made, ordered, history, start
-
-
-def differences(answers, wanted):
-    return [at for at in range(len(wanted)) if answers[at] != wanted[at]]
-
-
-def altered_vectors(kinds, wanted):
-    """Expected answers altered, two of each kind: the last answer's number, and the last digit of the one before. Their places, and the whole."""
-    places, whole = [], list(wanted)
-    for kind in set(kinds):
-        *_, before, last = (at for at, one in enumerate(kinds) if one == kind)
-        number, _, rest = whole[last].partition(" ")
-        whole[last] = f"{(int(number) + 1) % 17} {rest}"
-        whole[before] = whole[before][:-1] + ("1" if whole[before][-1] == "0" else "0")
-        places += [before, last]
-    return sorted(places), whole
 
 
 def altered(request):
