@@ -1,12 +1,14 @@
-# make run      the main job: document 01's example tape, made from text, worked, and shown with its answers; and the published row judged
+# make run      the main job: document 01's example tape, made from text, worked, and shown with its answers; the published row judged; and a page
+#               record written, listed, opened, and refused where a byte of it is altered
 # make test     the gate
 # make lib      the static library and its header, to target/dist
-# make example  builds the library and runs examples/page.c and examples/convert.c over it
+# make example  builds the library and runs examples/page.c, examples/convert.c and examples/record.c over it
 # make compare  the library against the archivists' program; ARCHIVIST='command' for another program, SEED=number to repeat a run
 # make bench    times the proved code against C, and against OpenSSL's Camellia and ARIA where it is installed
 # make wrong    runs the wrong programs that the must-fail edits make, unproved, and shows of each a case that it answers wrongly; ONLY='crate crate/label'
 # make paper    the paper for the successor for print, to target/OPENING-A-PAGE.pdf
 .PHONY: run test lib example compare bench wrong paper
+COMPILE = gcc -std=c99 -Wall -Wextra -Wpedantic -I target/dist
 
 run:
 	rt check tape_program judge_row
@@ -17,6 +19,10 @@ run:
 	tools/show_tape target/example.tape target/example.answers
 	@echo "target/bin/judge_row judges rows, sixteen hexadecimal digits each, on its standard input; the published one:"
 	echo 01 01 03 0F 0A 1F 0F 0C | target/bin/judge_row
+	$(MAKE) -s lib
+	@echo "examples/record.c writes a page record, lists it without a key and opens it; then it alters one byte, which opening is to refuse with 20:"
+	$(COMPILE) examples/record.c target/dist/liblabyrinth.a -o target/record
+	target/record
 
 test:
 	tests/gate.sh
@@ -29,15 +35,18 @@ lib:
 	rt staticlib runs_c
 	rt staticlib tags_c
 	rt staticlib wraps_c
+	rt staticlib pages_c
 	mkdir -p target/dist
-	printf 'create target/dist/liblabyrinth.a\naddlib target/staticlib/liblabyrinth_c.a\naddlib target/staticlib/librows_c.a\naddlib target/staticlib/libstores_c.a\naddlib target/staticlib/libblocks_c.a\naddlib target/staticlib/libruns_c.a\naddlib target/staticlib/libtags_c.a\naddlib target/staticlib/libwraps_c.a\nsave\nend\n' | ar -M
+	printf 'create target/dist/liblabyrinth.a\naddlib target/staticlib/liblabyrinth_c.a\naddlib target/staticlib/librows_c.a\naddlib target/staticlib/libstores_c.a\naddlib target/staticlib/libblocks_c.a\naddlib target/staticlib/libruns_c.a\naddlib target/staticlib/libtags_c.a\naddlib target/staticlib/libwraps_c.a\naddlib target/staticlib/libpages_c.a\nsave\nend\n' | ar -M
 	cp include/labyrinth.h target/dist/labyrinth.h
 
 example: lib
-	gcc -std=c99 -Wall -Wextra -Wpedantic -I target/dist examples/page.c target/dist/liblabyrinth.a -o target/page
+	$(COMPILE) examples/page.c target/dist/liblabyrinth.a -o target/page
 	target/page
-	gcc -std=c99 -Wall -Wextra -Wpedantic -I target/dist examples/convert.c target/dist/liblabyrinth.a -o target/convert
+	$(COMPILE) examples/convert.c target/dist/liblabyrinth.a -o target/convert
 	target/convert
+	$(COMPILE) examples/record.c target/dist/liblabyrinth.a -o target/record
+	target/record
 
 compare: lib
 	tests/compare_c.py $${ARCHIVIST:+--archivist "$$ARCHIVIST"} $${SEED:+--seed "$$SEED"}

@@ -1,7 +1,8 @@
-/* The block cipher Labyrinth, and over it CBC and CTR of NIST SP 800-38A, the tag of SP 800-38B (CMAC) and the wrapping of keys of SP
- * 800-38F (KW). Each function that takes a key expands it, does one operation and keeps nothing; two mix a word, two make a row, and one
- * judges a row. Those whose names begin with labyrinth_key_ take a working key, expanded before by labyrinth_expand, and a store of
- * substitutions and rows. n is 1, 2 or 4: a block has 16n bytes. l is 2, 3 or 4: a key has 8nl bytes. Tags and wrapped keys are at n = 1.
+/* The block cipher Labyrinth, and over it CBC and CTR of NIST SP 800-38A, the tag of SP 800-38B (CMAC), the wrapping of keys of SP 800-38F
+ * (KW) and records of pages. Each function that takes a key expands it, does one operation and keeps nothing; two mix a word, two make a
+ * row, and one judges a row. Those whose names begin with labyrinth_key_ take a working key, expanded before by labyrinth_expand, and a
+ * store of substitutions and rows; labyrinth_page_write and labyrinth_page_open take two such keys. n is 1, 2 or 4: a block has 16n bytes.
+ * l is 2, 3 or 4: a key has 8nl bytes. Tags, wrapped keys and page records are at n = 1.
  *
  * Returned is the number of documents 01 and 02: 0 if it was done, else the first of these that applies, and then dst, or the tag to be
  * made, holds what it held before, and so do a store and a working key:
@@ -9,27 +10,31 @@
  *   1  n isn't 1, 2 or 4
  *   2  l isn't 2, 3 or 4
  *  15  the store has no such set, or it isn't loaded; there is no such publisher
- *  12  n isn't 1 (a tag, or a wrapped key, under a working key)
+ *  12  n isn't 1 (a tag, a wrapped key or a page record, under a working key)
  *   3  the key isn't 8nl bytes
+ *  19  the title isn't 32 bytes (a page to be written), or the bytes are no page record (one to be read)
  *   6  the start block isn't 16n bytes
- *   4  the source isn't 16n bytes (a block), or no multiple of that (CBC); a row isn't 8 bytes (here the number is our choice)
+ *   4  the source isn't 16n bytes (a block), or no multiple of that (CBC), or a body isn't 0 to 4096 whole blocks of 16 bytes (a page); a
+ *      row isn't 8 bytes (here the number is our choice)
  *  17  a key to be wrapped isn't 16 to 128 bytes, or one to be unwrapped isn't 24 to 136, in steps of 8
  *  14  the substitution isn't 256 different bytes
  *  13  the row's eight coefficients XOR to zero (a product takes any rows, and any row is judged)
  *  16  someone holds the set, the loader included
+ *  20  the tag of a page record is wrong
  *   5  the destination isn't 16n bytes (a block), or isn't as long as the source (CBC, CTR), or isn't 8 bytes (a row), or isn't 8 bytes
- *      longer than the source (wrapping) or 8 bytes shorter (unwrapping)
+ *      longer than the source (wrapping) or 8 bytes shorter (unwrapping), or isn't of the record's length (a page written) or of its
+ *      body's (a page opened)
  *  11  the tag isn't 8 to 16 bytes
  *  18  the check value of a key to be unwrapped is wrong
+ * Of two keys the sealing key's 1, 15 and 12 come before the tag key's.
  *
  * 0 alone does not say that a page is genuine: by a wrong key, or altered, it opens to something too, and verifying its tag returns 0 for a
- * no as for a yes. So does judging a row. Look at *yes. Unwrapping has no *yes: there 18 is the no.
+ * no as for a yes. So does judging a row. Look at *yes. Unwrapping and opening a page record have no *yes: there 18 and 20 are the no.
  *
  * What the caller owes; what is proved of these functions holds only then:
- *   - Each pointer is valid for its length: key, start, src, msg, row, g, h, substitution, a const store, a const working key and the tag to
- *     be verified for reading, dst, the tag to be made, and a store or a working key that isn't const for writing. Any alignment will do.
- *     NULL only with length 0: such a pointer is never followed. yes points to one byte for writing, out and row_judge's word to a uint64_t
- *     for writing, aligned as a uint64_t is; none of these is ever NULL.
+ *   - Each pointer that comes with a length is valid for it: for reading if it is to const bytes, else for writing. Any alignment will do.
+ *     NULL only with length 0: such a pointer is never followed. For writing too, yes points to one byte, out, row_judge's word, blocks and
+ *     title_at to a uint64_t, page_catalogue's number and day to a uint32_t, aligned as such a number is; none of these is ever NULL.
  *   - What is written overlaps nothing else of its call; what is only read may overlap. So nothing is sealed, opened, wrapped or unwrapped
  *     in place, and no product or inverse put in the place of a row that it is made from.
  *   - While a call runs nobody else writes to its buffers or reads those that it writes, which may hold other bytes then than in the end.
@@ -47,7 +52,7 @@
 #include <stdint.h>
 
 /* The library's version is 0.k.0, the landing being the kth in CHANGELOG.md from the first release, 0.1.0, on. */
-#define LABYRINTH_VERSION "0.14.0"
+#define LABYRINTH_VERSION "0.15.0"
 
 /* No call uses more bytes of the stack. Measured on a painted stack were 33008, of CTR under a working key of another set than 0, the return
  * address and what the caller pushes counted (x86_64 Linux, Debian 12, gcc 12.2, glibc 2.36, the archive as rattle-kit-5b makes it); the rest
@@ -127,6 +132,34 @@ uint8_t labyrinth_key_cmac_verify(const uint8_t *store, size_t store_len, const 
  * being wrapped dst may hold it. A key wrapped twice gives the same bytes twice. */
 uint8_t labyrinth_key_wrap(const uint8_t *store, size_t store_len, const uint8_t *working, size_t working_len, const uint8_t *src, size_t src_len, uint8_t *dst, size_t dst_len);
 uint8_t labyrinth_key_unwrap(const uint8_t *store, size_t store_len, const uint8_t *working, size_t working_len, const uint8_t *src, size_t src_len, uint8_t *dst, size_t dst_len);
+
+/* A page record: a page's number, day and title, which anyone can read, and its body, sealed, all under one tag. It is these commands, each
+ * a byte, here in hexadecimal, and what follows it, for a body of m blocks of 16 bytes, m from 0 to 4096:
+ *   from byte 0        10 and the number (4 bytes, the least first)
+ *   from byte 5        11 and the day (4 bytes, the least first)
+ *   from byte 10       12 and the title (32 bytes)
+ *   from byte 43       13 and the start block (16 bytes)
+ *   from byte 60 + 17i 15 and sealed block i (16 bytes), for each i from 0 to m - 1
+ *   from byte 60 + 17m 1F and the tag (16 bytes), and nothing after it
+ * So it has 77 + 17m bytes. The sealed blocks, without the bytes 15, are what labyrinth_key_cbc_seal makes of the body; the tag is
+ * labyrinth_key_cmac's of all bytes before 1F. Any number, day and title will do. The two working keys should be two keys, each used for
+ * nothing else; each is used by the set that it names in the one store.
+ *
+ * labyrinth_page_write makes a record of 77 + 17m bytes. The order is 4 for the lengths of store and keys; 1, 15, 12 for the sealing key; the
+ * same for the tag key; 19, 6, 4, 5. A start block is for one page only, and nobody should be able to tell it beforehand.
+ *
+ * labyrinth_page_catalogue takes no key and no store. Every call sets *number, *day, *blocks and *title_at: if it returns 0, to the record's
+ * number, its day, its m, and 11, the title being the 32 bytes of the record itself from there on; else, with 19, to 0. It verifies nothing:
+ * what it shows may have been altered, and only opening tells. To it records of one length that differ only in sealed bytes, start block
+ * or tag are the same.
+ *
+ * labyrinth_page_open verifies the tag, and then opens the body to dst, of 16m bytes. The order is that of writing as far as the keys; then
+ * 19, 20, 5. So with a wrong tag nothing is opened, and the destination's length isn't looked at. What was written opens to its body under
+ * the same two working keys, by any store that has their sets loaded with the substitutions and the rows that writing had. 20 tells that
+ * the record was altered, or that the tag key or its set is another; of another sealing key nothing tells. */
+uint8_t labyrinth_page_write(const uint8_t *store, size_t store_len, const uint8_t *sealing, size_t sealing_len, const uint8_t *tagging, size_t tagging_len, uint32_t number, uint32_t day, const uint8_t *title, size_t title_len, const uint8_t *start, size_t start_len, const uint8_t *body, size_t body_len, uint8_t *dst, size_t dst_len);
+uint8_t labyrinth_page_catalogue(const uint8_t *record, size_t record_len, uint32_t *number, uint32_t *day, uint64_t *blocks, uint64_t *title_at);
+uint8_t labyrinth_page_open(const uint8_t *store, size_t store_len, const uint8_t *sealing, size_t sealing_len, const uint8_t *tagging, size_t tagging_len, const uint8_t *record, size_t record_len, uint8_t *dst, size_t dst_len);
 
 /* The article's mixing of a word. */
 uint64_t labyrinth_mix(uint64_t word);

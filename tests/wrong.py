@@ -219,7 +219,7 @@ def through_c(crate, sources, place):
     return archive(crate, root, [name for name in reached((crate,)) if name != crate], sources, os.path.join(place, f"{crate}.a"))
 
 
-LIBRARIES = "labyrinth_c", "rows_c", "stores_c", "blocks_c", "runs_c", "tags_c", "wraps_c"  # what tests/labyrinth_lines.c and tests/c_interface call
+LIBRARIES = "labyrinth_c", "rows_c", "stores_c", "blocks_c", "runs_c", "tags_c", "wraps_c", "pages_c"  # what tests/labyrinth_lines.c and tests/c_interface call
 
 
 KEPT = tempfile.TemporaryDirectory()

@@ -118,8 +118,22 @@ int memory(const struct op *ops, enum kind kind, uint64_t seed, long cases, int 
 
 /* ---- stores.c */
 
+#define COUNT(list) ((int)(sizeof(list) / sizeof *(list)))
+enum { STORE_LEN = 1072, WORKING_LEN = 272, SET = 264, MARKS = 1056 };
+
+uint64_t number_at(const uint8_t *at);
+void put_number(uint8_t *at, uint64_t number);
+int is_loaded(const uint8_t *store, uint64_t set);
+void shuffle(uint8_t *substitution);
+void any_row(uint8_t *row);
+void by_hand(uint8_t *store, uint64_t mark0, uint64_t mark1);
 long records(uint64_t seed, int large, size_t *most);
 int try_record_stubs(uint64_t seed);
+
+/* ---- pages.c */
+
+long pages(uint64_t seed, int large, size_t *most);
+int try_page_stubs(uint64_t seed);
 
 /* ---- stubs.c */
 

@@ -10,7 +10,6 @@
 
 #include "interface.h"
 
-enum { STORE_LEN = 1072, WORKING_LEN = 272, SET = 264, MARKS = 1056 };
 enum what { FRESH, LOAD, TAKE, EXPAND, ENCIPHER, DECIPHER, BY_MATRIX, BACK_BY_MATRIX, SEAL, OPEN, STREAM, TAG, CHECK, WRAP, UNWRAP, WHATS };
 static const char *const names[WHATS] = {"store_fresh", "store_load", "store_take", "expand", "key_encipher", "key_decipher", "key_encipher_by_matrix",
                                          "key_decipher_by_matrix", "key_cbc_seal", "key_cbc_open", "key_ctr", "key_cmac", "key_cmac_verify", "key_wrap", "key_unwrap"};
@@ -73,14 +72,14 @@ static enum lent written_by(enum what what) { return what <= TAKE ? STORE : what
 
 /* ---- the papers' numbers */
 
-static uint64_t number_at(const uint8_t *at)
+uint64_t number_at(const uint8_t *at)
 {
     uint64_t number = 0;
     for (int i = 7; i >= 0; i--) number = number << 8 | at[i];
     return number;
 }
 
-static void put_number(uint8_t *at, uint64_t number)
+void put_number(uint8_t *at, uint64_t number)
 {
     for (int i = 0; i < 8; i++) at[i] = (uint8_t)(number >> 8 * i);
 }
@@ -93,7 +92,7 @@ static int different(const uint8_t *substitution)
     return 1;
 }
 
-static int is_loaded(const uint8_t *store, uint64_t set)
+int is_loaded(const uint8_t *store, uint64_t set)
 {
     return set == 0 || (set < 4 && different(store + SET * set) && row_sum(store + SET * set + 256, 8) != 0);
 }
@@ -260,7 +259,7 @@ static void one_call(struct asked *q)
 /* ---- stores and working keys made by hand */
 
 /* Any 256 different bytes. */
-static void shuffle(uint8_t *substitution)
+void shuffle(uint8_t *substitution)
 {
     for (int i = 0; i < 256; i++) {
         size_t j = below((size_t)i + 1);
@@ -269,14 +268,14 @@ static void shuffle(uint8_t *substitution)
     }
 }
 
-static void any_row(uint8_t *row)
+void any_row(uint8_t *row)
 {
     do fill(row, 8);
     while (row_sum(row, 8) == 0);
 }
 
 /* Set 0 junk; set 1 good; set 2 with two equal bytes, in a way that changes by turns; set 3 with a row that XORs to zero. */
-static void by_hand(uint8_t *store, uint64_t mark0, uint64_t mark1)
+void by_hand(uint8_t *store, uint64_t mark0, uint64_t mark1)
 {
     fill(store, STORE_LEN);
     for (int i = 1; i < 4; i++) {
@@ -293,7 +292,6 @@ static void by_hand(uint8_t *store, uint64_t mark0, uint64_t mark1)
 static const uint64_t ns[] = {1, 2, 4, 0, 3, 5, ((uint64_t)1 << 32) + 1, UINT64_MAX}, ls[] = {2, 3, 4, 0, 1, 5, ((uint64_t)1 << 32) + 2, UINT64_MAX},
                       sets[] = {0, 1, 2, 3, 4, 5, 255, 256, 257, (uint64_t)1 << 32, ((uint64_t)1 << 32) + 1, UINT64_MAX},
                       publishers[] = {0, 1, 2, 255, 256, (uint64_t)1 << 32, UINT64_MAX};
-#define COUNT(list) ((int)(sizeof(list) / sizeof *(list)))
 
 static size_t record_lengths[2][5] = {{STORE_LEN, 0, STORE_LEN - 1, STORE_LEN + 1, SET}, {WORKING_LEN, 0, WORKING_LEN - 1, WORKING_LEN + 1, 16}};
 

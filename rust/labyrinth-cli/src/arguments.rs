@@ -1,17 +1,24 @@
 //! Reads the command line.
 use crate::pieces::Mode;
+use labyrinth::page;
 use std::ffi::{OsStr, OsString};
 
 pub const USAGE: &str = "labyrinth seal|open --mode cbc|ctr -n N -l L --key-file F --start HEX [--offset Q] [--set FILE] IN OUT
        labyrinth tag -l L --key-file F [--length T] [--set FILE] IN
        labyrinth verify -l L --key-file F --tag HEX [--set FILE] IN
-       labyrinth wrap|unwrap -l L --key-file F [--set FILE] IN OUT";
+       labyrinth wrap|unwrap -l L --key-file F [--set FILE] IN OUT
+       labyrinth page write -l L --key-file F --tag-key-file F [--tag-l L] [--set FILE] [--tag-set FILE] --number N --day D --title TEXT --start HEX IN OUT
+       labyrinth page list FILE..
+       labyrinth page open -l L --key-file F --tag-key-file F [--tag-l L] [--set FILE] [--tag-set FILE] IN OUT";
 
 pub enum Request {
     Help,
     Work(Arguments),
     Tag(TagArguments),
     Wrap(WrapArguments),
+    Write(PageArguments, PageText),
+    List(Vec<OsString>),
+    Open(PageArguments),
 }
 
 pub struct Arguments {
@@ -44,6 +51,27 @@ pub struct WrapArguments {
     pub output: OsString,
 }
 
+/// What writing and opening a page record have in common. The tag key's set is the sealing key's where it has no file of its own.
+pub struct PageArguments {
+    pub l: usize,
+    pub key_file: OsString,
+    pub set_file: Option<OsString>,
+    pub tag_l: usize,
+    pub tag_key_file: OsString,
+    pub tag_set_file: Option<OsString>,
+    pub input: OsString,
+    pub output: OsString,
+}
+
+/// What is written of a page beside its body.
+pub struct PageText {
+    pub number: u32,
+    pub day: u32,
+    /// Padded with spaces to a title's length; a longer one is kept as it is, and the library refuses it.
+    pub title: Vec<u8>,
+    pub start: Vec<u8>,
+}
+
 pub enum Tagging {
     /// Makes a tag of so many bytes.
     Make(usize),
@@ -52,17 +80,27 @@ pub enum Tagging {
 }
 
 const WORDS: [&str; 6] = ["seal", "open", "tag", "verify", "wrap", "unwrap"];
+/// What follows the word page.
+const PAGE_WORDS: [&str; 3] = ["page write", "page list", "page open"];
+const KEYED: [&str; 8] = ["seal", "open", "tag", "verify", "wrap", "unwrap", "page write", "page open"];
+const TWO_KEYS: [&str; 2] = ["page write", "page open"];
 /// Each option with the words that take it.
-const OPTIONS: [(&str, &[&str]); 9] = [
+const OPTIONS: [(&str, &[&str]); 15] = [
     ("--mode", &["seal", "open"]),
     ("-n", &["seal", "open"]),
-    ("-l", &WORDS),
-    ("--key-file", &WORDS),
-    ("--start", &["seal", "open"]),
+    ("-l", &KEYED),
+    ("--key-file", &KEYED),
+    ("--start", &["seal", "open", "page write"]),
     ("--offset", &["seal", "open"]),
     ("--length", &["tag"]),
     ("--tag", &["verify"]),
-    ("--set", &WORDS),
+    ("--set", &KEYED),
+    ("--tag-l", &TWO_KEYS),
+    ("--tag-key-file", &TWO_KEYS),
+    ("--tag-set", &TWO_KEYS),
+    ("--number", &["page write"]),
+    ("--day", &["page write"]),
+    ("--title", &["page write"]),
 ];
 /// A tag's length where --length is left out.
 const WHOLE_TAG: usize = 16;
@@ -89,21 +127,20 @@ pub fn read(words: impl Iterator<Item = OsString>) -> Result<Request, String> {
             return Err(format!("unknown option {text}"));
         }
     }
-    let names = operands.split_off(operands.len().min(1));
-    let first = operands.pop().unwrap_or_default();
-    let unknown = format!("'seal', 'open', 'tag', 'verify', 'wrap' or 'unwrap' comes first, not '{}'", first.to_string_lossy());
-    let word = *WORDS.iter().find(|word| first == **word).ok_or(unknown)?;
+    let (word, names) = first_word(operands)?;
     for ((option, takers), value) in OPTIONS.iter().zip(&values) {
         if value.is_some() && !takers.contains(&word) {
             let why = match (*option, word) {
                 ("-n", "tag" | "verify") => ": a tag is always at n = 1",
-                ("-n", _) => ": a wrapped key is always at n = 1",
+                ("-n", "wrap" | "unwrap") => ": a wrapped key is always at n = 1",
+                ("-n", _) => ": a page record is always at n = 1",
+                (_, "page list") => ": it needs no key",
                 _ => "",
             };
             return Err(format!("'{word}' takes no {option}{why}"));
         }
     }
-    let [mode, n, l, key_file, start, offset, length, tag, set_file] = values;
+    let [mode, n, l, key_file, start, offset, length, tag, set_file, tag_l, tag_key_file, tag_set_file, page_number, day, title] = values;
     match word {
         "tag" | "verify" => {
             let [input] = files(names, "IN is")?;
@@ -114,15 +151,44 @@ pub fn read(words: impl Iterator<Item = OsString>) -> Result<Request, String> {
                 (_, None) => Tagging::Make(WHOLE_TAG),
                 (_, length) => Tagging::Make(size_of(length, "--length")?),
             };
-            check_names(&key_file, &set_file, &[&input])?;
+            check_names(&[&key_file], &[&set_file], &[&input])?;
             Ok(Request::Tag(TagArguments { task, l, key_file, set_file, input }))
         }
         "wrap" | "unwrap" => {
             let [input, output] = files(names, "IN and OUT are")?;
             let l = size_of(l, "-l")?;
             let key_file = key_file.ok_or("--key-file is missing")?;
-            check_names(&key_file, &set_file, &[&input, &output])?;
+            check_names(&[&key_file], &[&set_file], &[&input, &output])?;
             Ok(Request::Wrap(WrapArguments { wrap: word == "wrap", l, key_file, set_file, input, output }))
+        }
+        "page list" => {
+            if names.is_empty() {
+                return Err("no words besides 'page list', where FILE is wanted, or several".to_string());
+            }
+            check_list(&names)?;
+            Ok(Request::List(names))
+        }
+        "page write" | "page open" => {
+            let [input, output] = files(names, "IN and OUT are")?;
+            let l = size_of(l, "-l")?;
+            let key_file = key_file.ok_or("--key-file is missing")?;
+            let tag_l = tag_l.map_or(Ok(l), |tag_l| size_of(Some(tag_l), "--tag-l"))?;
+            let tag_key_file = tag_key_file.ok_or("--tag-key-file is missing")?;
+            let text = match word {
+                "page write" => Some(PageText {
+                    number: short_number(page_number, "--number")?,
+                    day: short_number(day, "--day")?,
+                    title: padded(text_of(title, "--title")?),
+                    start: bytes_of(start, "--start")?,
+                }),
+                _ => None,
+            };
+            check_names(&[&key_file, &tag_key_file], &[&set_file, &tag_set_file], &[&input, &output])?;
+            let page = PageArguments { l, key_file, set_file, tag_l, tag_key_file, tag_set_file, input, output };
+            Ok(match text {
+                Some(text) => Request::Write(page, text),
+                None => Request::Open(page),
+            })
         }
         _ => {
             let [input, output] = files(names, "IN and OUT are")?;
@@ -141,7 +207,7 @@ pub fn read(words: impl Iterator<Item = OsString>) -> Result<Request, String> {
                     .ok_or("--offset takes a number below 2^64, decimal or 0x and hexadecimal digits")?,
                 (Mode::Cbc, _) => return Err("--offset is for --mode ctr only".to_string()),
             };
-            check_names(&key_file, &set_file, &[&input, &output])?;
+            check_names(&[&key_file], &[&set_file], &[&input, &output])?;
             Ok(Request::Work(Arguments { seal: word == "seal", mode, n, l, key_file, set_file, start, offset, input, output }))
         }
     }
@@ -151,16 +217,43 @@ fn files<const COUNT: usize>(names: Vec<OsString>, wanted: &str) -> Result<[OsSt
     names.try_into().map_err(|names: Vec<_>| format!("{} words besides the options and the first, where {wanted} wanted", names.len()))
 }
 
+/// The word that says what to do, two words for a page record, and the names behind it.
+fn first_word(mut operands: Vec<OsString>) -> Result<(&'static str, Vec<OsString>), String> {
+    let names = operands.split_off(operands.len().min(1));
+    let first = operands.pop().unwrap_or_default();
+    if first != "page" {
+        let unknown = format!("'seal', 'open', 'tag', 'verify', 'wrap', 'unwrap' or 'page' comes first, not '{}'", first.to_string_lossy());
+        return Ok((WORDS.iter().find(|word| first == **word).ok_or(unknown)?, names));
+    }
+    let mut names = names.into_iter();
+    let second = names.next().unwrap_or_default();
+    let both = format!("page {}", second.to_string_lossy());
+    let unknown = format!("'write', 'list' or 'open' comes after 'page', not '{}'", second.to_string_lossy());
+    Ok((PAGE_WORDS.iter().find(|word| both == **word).ok_or(unknown)?, names.collect()))
+}
+
 /// IN stands first.
-fn check_names(key_file: &OsStr, set_file: &Option<OsString>, names: &[&OsStr]) -> Result<(), String> {
-    let read: Vec<&OsStr> = [key_file, names[0]].into_iter().chain(set_file.as_deref()).collect();
-    if read.iter().chain(names).any(|name| name.is_empty()) {
+fn check_names(key_files: &[&OsStr], set_files: &[&Option<OsString>], names: &[&OsStr]) -> Result<(), String> {
+    let sets: Vec<&OsStr> = set_files.iter().filter_map(|file| file.as_deref()).collect();
+    let read = key_files.iter().chain(&sets).chain(&names[..1]);
+    if read.clone().chain(names).any(|name| name.is_empty()) {
         return Err("a file's name is empty".to_string());
     }
-    match read.iter().filter(|name| **name == "-").count() {
+    match read.filter(|name| **name == "-").count() {
         0 | 1 => Ok(()),
-        _ if set_file.is_none() => Err("the key and IN can't both come from standard input".to_string()),
+        _ if key_files.len() > 1 => Err("of the keys, the sets and IN only one can come from standard input".to_string()),
+        _ if sets.is_empty() => Err("the key and IN can't both come from standard input".to_string()),
         _ => Err("of the key, the set and IN only one can come from standard input".to_string()),
+    }
+}
+
+fn check_list(names: &[OsString]) -> Result<(), String> {
+    if names.iter().any(|name| name.is_empty()) {
+        return Err("a file's name is empty".to_string());
+    }
+    match names.iter().filter(|name| *name == "-").count() {
+        0 | 1 => Ok(()),
+        _ => Err("standard input stands twice".to_string()),
     }
 }
 
@@ -194,6 +287,18 @@ fn number(text: &str) -> Option<u64> {
         return None;
     }
     u64::from_str_radix(digits, radix).ok()
+}
+
+fn short_number(value: Option<OsString>, option: &str) -> Result<u32, String> {
+    let found = number(&text_of(value, option)?).and_then(|number| u32::try_from(number).ok());
+    found.ok_or(format!("{option} takes a number below 2^32, decimal or 0x and hexadecimal digits"))
+}
+
+/// A title's bytes, with spaces behind them as far as there is room.
+fn padded(title: String) -> Vec<u8> {
+    let mut title = title.into_bytes();
+    title.resize(title.len().max(page::TITLE), b' ');
+    title
 }
 
 /// Bytes from hexadecimal digits, two a byte, first byte first; white space is ignored. What is wrong is told by its place, since the
@@ -233,6 +338,19 @@ mod tests {
         for wrong in ["", "-1", "+1", "1 ", "x", "0x"] {
             assert_eq!((size(wrong), number(wrong)), (None, None), "{wrong}");
         }
+        let short = |text: &str| short_number(Some(text.into()), "--day").ok();
+        assert_eq!(
+            (short("4294967295"), short("0xFFffFFff"), short("4294967296"), short("-1"), short("")),
+            (Some(u32::MAX), Some(u32::MAX), None, None, None)
+        );
         assert_eq!((number("18446744073709551616"), number("ff"), number("0x+f"), number("0x10000000000000000")), (None, None, None, None));
+    }
+
+    #[test]
+    fn titles() {
+        assert_eq!(padded("a".to_string()), [b"a".as_slice(), &[b' '; 31]].concat());
+        assert_eq!(padded("\u{416}".repeat(16)), "\u{416}".repeat(16).into_bytes());
+        assert_eq!(padded("\u{416}".repeat(17)).len(), 34);
+        assert_eq!(padded(String::new()), [b' '; 32]);
     }
 }

@@ -1,7 +1,8 @@
-//! The command labyrinth: seals and opens pages, makes and verifies their tags, and wraps and unwraps keys. src/help.txt says how it is used and
-//! what its exit statuses are.
+//! The command labyrinth: seals and opens pages, makes and verifies their tags, wraps and unwraps keys, and writes, lists and opens page records.
+//! src/help.txt says how it is used and what its exit statuses are.
 mod arguments;
 mod output;
+mod pages;
 mod pieces;
 mod progress;
 
@@ -18,7 +19,7 @@ use std::os::unix::io::AsFd;
 use std::process::exit;
 
 /// A message and the exit status: 1 refused with a number, 2 usage, 3 a file could not be read or written, 4 the tag is not IN's, or IN is no
-/// wrapped key of this master key's.
+/// wrapped key of this master key's, or no page record of this tag key's.
 struct Stop(i32, String);
 
 const LONGEST_KEY_FILE: u64 = 65536;
@@ -30,12 +31,16 @@ fn main() {
     let status = match run() {
         Ok(()) => 0,
         Err(Stop(status, message)) => {
-            // not eprintln, which panics where standard error can't be written
-            let _ = writeln!(io::stderr(), "labyrinth: {message}");
+            tell(&message);
             status
         }
     };
     exit(status)
+}
+
+fn tell(message: &str) {
+    // not eprintln, which panics where standard error can't be written
+    let _ = writeln!(io::stderr(), "labyrinth: {message}");
 }
 
 fn run() -> Result<(), Stop> {
@@ -44,6 +49,9 @@ fn run() -> Result<(), Stop> {
         Ok(Request::Work(arguments)) => work(&arguments),
         Ok(Request::Tag(arguments)) => tag(&arguments),
         Ok(Request::Wrap(arguments)) => wrap(&arguments),
+        Ok(Request::Write(arguments, text)) => pages::write(&arguments, &text),
+        Ok(Request::List(names)) => pages::list(&names),
+        Ok(Request::Open(arguments)) => pages::open(&arguments),
         Err(message) => Err(Stop(2, format!("{message}\nusage: {}\nsee labyrinth --help", arguments::USAGE))),
     }
 }
@@ -64,7 +72,7 @@ fn work(a: &Arguments) -> Result<(), Stop> {
 
     let (input, held) = open_input(&a.input)?;
     let one_file = "IN and OUT are one file: nothing shows whether the key is right, so the only copy isn't replaced";
-    check_output(&a.output, one_file, &held, &key_file, set_file.as_ref())?;
+    check_output(&a.output, one_file, &held, &[&key_file], &[&set_file])?;
     let length = if held.is_file() && a.input != *"-" { Some(held.len()) } else { None };
     if let (Mode::Cbc, Some(length)) = (a.mode, length) {
         if length % (16 * a.n as u64) != 0 {
@@ -130,7 +138,7 @@ fn wrap(a: &WrapArguments) -> Result<(), Stop> {
     let stop = |error, count| refused(error, 1, a.l, bytes.len(), || format!("IN holds {count} bytes"));
     let master = Key { n: 1, l: a.l, bytes: &bytes }.expand(&store, set).map_err(|error| stop(error, 0))?;
     let (given, held) = read_key(&a.input)?;
-    check_output(&a.output, "IN and OUT are one file: the only copy of a key isn't replaced", &held, &key_file, set_file.as_ref())?;
+    check_output(&a.output, "IN and OUT are one file: the only copy of a key isn't replaced", &held, &[&key_file], &[&set_file])?;
 
     let (run, room): (fn(&_, &_, &_, &mut _) -> _, _) =
         if a.wrap { (WorkingKey::wrap, given.len() + 8) } else { (WorkingKey::unwrap, given.len().saturating_sub(8)) };
@@ -143,9 +151,7 @@ fn wrap(a: &WrapArguments) -> Result<(), Stop> {
         _ => stop(error, given.len()),
     })?;
     // a key that was unwrapped is for its owner alone
-    let fresh = if a.wrap { 0o666 } else { 0o600 };
-    let written = open_output(&a.output, fresh).and_then(|mut output| output.write_all(digits(&made).as_bytes()).and_then(|()| output.finish()));
-    written.map_err(|e| unwritten(&a.output, e))
+    write_whole(&a.output, if a.wrap { 0o666 } else { 0o600 }, digits(&made).as_bytes())
 }
 
 /// Hexadecimal digits and a line end.
@@ -183,14 +189,24 @@ fn open_output(name: &OsStr, fresh: u32) -> io::Result<Output> {
     }
 }
 
-/// OUT may not be IN, which `one_file` says, the key file or the set file.
-fn check_output(name: &OsStr, one_file: &str, input: &Metadata, key_file: &Metadata, set_file: Option<&Metadata>) -> Result<(), Stop> {
+fn write_whole(name: &OsStr, fresh: u32, bytes: &[u8]) -> Result<(), Stop> {
+    let written = open_output(name, fresh).and_then(|mut output| output.write_all(bytes).and_then(|()| output.finish()));
+    written.map_err(|e| unwritten(name, e))
+}
+
+/// OUT may not be IN, which `one_file` says, a key file or a set file.
+fn check_output(name: &OsStr, one_file: &str, input: &Metadata, keys: &[&Metadata], sets: &[&Option<Metadata>]) -> Result<(), Stop> {
     let Some(out) = there_now(name)? else { return Ok(()) };
-    let read = [(Some(input), one_file), (Some(key_file), "OUT is the key file"), (set_file, "OUT is the set file")];
-    match read.into_iter().find(|(file, _)| file.is_some_and(|file| same(file, &out))) {
-        Some((_, what)) => Err(Stop(2, what.to_string())),
-        None => Ok(()),
-    }
+    let what = if same(input, &out) {
+        one_file
+    } else if keys.iter().any(|file| same(file, &out)) {
+        "OUT is the key file"
+    } else if sets.iter().any(|file| file.as_ref().is_some_and(|file| same(file, &out))) {
+        "OUT is the set file"
+    } else {
+        return Ok(());
+    };
+    Err(Stop(2, what.to_string()))
 }
 
 /// What OUT is now, if it is there.
@@ -233,10 +249,16 @@ struct Tables {
     file: Option<Metadata>,
 }
 
-/// The published set, or the one that a file holds: as 264 bytes, or in hexadecimal digits, which are more.
+/// The published set, or the one that a file holds.
 fn read_set(name: Option<&OsStr>) -> Result<Tables, Stop> {
     let mut store = Store::fresh();
     let Some(name) = name else { return Ok(Tables { store, set: 0, file: None }) };
+    let file = Some(load_set(&mut store, 1, name)?);
+    Ok(Tables { store, set: 1, file })
+}
+
+/// Loads the set that a file holds, as 264 bytes, or in hexadecimal digits, which are more.
+fn load_set(store: &mut Store, number: u64, name: &OsStr) -> Result<Metadata, Stop> {
     let (text, held) = read_small(name, "set")?;
     let shown = named(name, "standard input");
     let usage = |what: String| Stop(2, format!("the set file {shown}: {what}"));
@@ -247,7 +269,7 @@ fn read_set(name: Option<&OsStr>) -> Result<Tables, Stop> {
     };
     let Ok::<[u8; SET], _>(set) = set.try_into() else { return Err(usage(wanted)) };
     let (substitution, row) = set.split_at(SUBSTITUTION);
-    store.load(0, 1, substitution, row.try_into().expect("8 bytes are left")).map_err(|error| {
+    store.load(0, number, substitution, row.try_into().expect("8 bytes are left")).map_err(|error| {
         let again =
             (0..substitution.len()).find_map(|at| Some((substitution[..at].iter().position(|byte| *byte == substitution[at])?, at)));
         let more = match (error, again) {
@@ -258,7 +280,7 @@ fn read_set(name: Option<&OsStr>) -> Result<Tables, Stop> {
         };
         Stop(1, format!("{error} (the set file {shown}{more})"))
     })?;
-    Ok(Tables { store, set: 1, file: Some(held) })
+    Ok(held)
 }
 
 /// The message names the number and what was wrong in this run, for numbers past 3 by `own`; it shows nothing of the key but its length.

@@ -1,7 +1,8 @@
 //! The block cipher Labyrinth, and over it CBC and CTR of NIST SP 800-38A, the tag of SP 800-38B (CMAC) and the wrapping of keys of SP 800-38F
 //! (KW): a safe wrapper of the library in Rattle that is proved against the article and these standards. Each operation of a [`Key`] or a
 //! [`TagKey`] expands it, does one thing and keeps nothing. A [`WorkingKey`] is expanded once and used for many pages, or to wrap keys; it names
-//! a set of tables in a [`Store`], the published set or one of an archive's own. Two functions mix a word, two make a row, and one judges a row.
+//! a set of tables in a [`Store`], the published set or one of an archive's own. [`page`] has records of pages: a title in the open, a sealed
+//! body, one tag. Two functions mix a word, two make a row, and one judges a row.
 //!
 //! What is proved is the library behind the C interface; this wrapper is not. It hands over what it is given, unchecked, and returns what
 //! the library answered. Safe Rust keeps to what the proofs ask of a caller: slices are valid, and a destination overlaps nothing.
@@ -31,6 +32,8 @@
 //! # Ok::<(), Error>(())
 //! ```
 #![warn(missing_docs)]
+
+pub mod page;
 
 use std::fmt;
 
@@ -250,6 +253,44 @@ extern "C" {
         dst: *mut u8,
         dst_len: usize,
     ) -> u8;
+    fn labyrinth_page_write(
+        store: *const u8,
+        store_len: usize,
+        sealing: *const u8,
+        sealing_len: usize,
+        tagging: *const u8,
+        tagging_len: usize,
+        number: u32,
+        day: u32,
+        title: *const u8,
+        title_len: usize,
+        start: *const u8,
+        start_len: usize,
+        body: *const u8,
+        body_len: usize,
+        dst: *mut u8,
+        dst_len: usize,
+    ) -> u8;
+    fn labyrinth_page_catalogue(
+        record: *const u8,
+        record_len: usize,
+        number: *mut u32,
+        day: *mut u32,
+        blocks: *mut u64,
+        title_at: *mut u64,
+    ) -> u8;
+    fn labyrinth_page_open(
+        store: *const u8,
+        store_len: usize,
+        sealing: *const u8,
+        sealing_len: usize,
+        tagging: *const u8,
+        tagging_len: usize,
+        record: *const u8,
+        record_len: usize,
+        dst: *mut u8,
+        dst_len: usize,
+    ) -> u8;
 }
 
 /// Why the library refused: the number of documents 01 and 02. The destination, the tag to be made or the store then holds what it held
@@ -264,16 +305,16 @@ pub enum Error {
     KeySize,
     /// 3: the key isn't 8nl bytes; n is 1 for a tag.
     KeyLength,
-    /// 4: the source isn't 16n bytes (a block), or no multiple of that (CBC).
+    /// 4: the source isn't 16n bytes (a block), or no multiple of that (CBC), or a page's body isn't 0 to 4,096 whole blocks of 16 bytes.
     SourceLength,
-    /// 5: the destination isn't 16n bytes (a block), isn't as long as the source (CBC, CTR), or isn't eight bytes longer (wrapping) or shorter
-    /// (unwrapping).
+    /// 5: the destination isn't 16n bytes (a block), isn't as long as the source (CBC, CTR), isn't eight bytes longer (wrapping) or shorter
+    /// (unwrapping), or isn't of the record's length (a page written) or of its body's (a page opened).
     DestinationLength,
     /// 6: the start block isn't 16n bytes.
     StartLength,
     /// 11: the tag isn't 8 to 16 bytes.
     TagLength,
-    /// 12: the working key's n isn't 1, for a tag or a wrapped key.
+    /// 12: the working key's n isn't 1, for a tag, a wrapped key or a page record.
     TagBlockSize,
     /// 13: the row's coefficients XOR to zero.
     RowSum,
@@ -287,6 +328,10 @@ pub enum Error {
     WrapLength,
     /// 18: the check value of a key to be unwrapped is wrong: it is altered, or under another master key or other tables.
     CheckValue,
+    /// 19: the title of a page to be written isn't 32 bytes, or what is to be read is no page record.
+    RecordLayout,
+    /// 20: a page record's tag is wrong: it is altered, or under another tag key or other tables.
+    RecordTag,
     /// Another number, which this crate doesn't know.
     Unknown(u8),
 }
@@ -309,6 +354,8 @@ impl Error {
             Error::SetHeld => 16,
             Error::WrapLength => 17,
             Error::CheckValue => 18,
+            Error::RecordLayout => 19,
+            Error::RecordTag => 20,
             Error::Unknown(number) => number,
         }
     }
@@ -320,19 +367,23 @@ impl fmt::Display for Error {
             Error::BlockSize => "n isn't 1, 2 or 4",
             Error::KeySize => "l isn't 2, 3 or 4",
             Error::KeyLength => "the key isn't 8nl bytes",
-            Error::SourceLength => "the source isn't 16n bytes, or for CBC no multiple of 16n bytes",
+            Error::SourceLength => {
+                "the source isn't 16n bytes, or for CBC no multiple of 16n bytes, or for a page record not 0 to 4,096 whole blocks of 16 bytes"
+            }
             Error::DestinationLength => {
-                "the destination isn't 16n bytes, or for CBC and CTR isn't as long as the source, or for a wrapped key isn't eight bytes longer or shorter"
+                "the destination isn't 16n bytes, or for CBC and CTR isn't as long as the source, or for a wrapped key isn't eight bytes longer or shorter, or for a page record isn't of its length or its body's"
             }
             Error::StartLength => "the start block isn't 16n bytes",
             Error::TagLength => "the tag isn't 8 to 16 bytes",
-            Error::TagBlockSize => "n isn't 1, as it is for a tag and a wrapped key",
+            Error::TagBlockSize => "n isn't 1, as it is for a tag, a wrapped key and a page record",
             Error::RowSum => "the row's coefficients XOR to zero",
             Error::Substitution => "the substitution isn't 256 different bytes",
             Error::NotInStore => "the publisher or the set is outside the store, or the set isn't loaded",
             Error::SetHeld => "someone holds the set",
             Error::WrapLength => "a key to be wrapped isn't 16 to 128 bytes, or one to be unwrapped isn't 24 to 136, in steps of 8",
             Error::CheckValue => "the wrapped key's check value is wrong",
+            Error::RecordLayout => "the title isn't 32 bytes, or this is no page record",
+            Error::RecordTag => "the page record's tag is wrong",
             Error::Unknown(_) => "a number that the crate labyrinth doesn't know",
         };
         write!(f, "refused with {}: {words}", self.number())
@@ -358,6 +409,8 @@ fn answer(number: u8) -> Result<(), Error> {
         16 => Err(Error::SetHeld),
         17 => Err(Error::WrapLength),
         18 => Err(Error::CheckValue),
+        19 => Err(Error::RecordLayout),
+        20 => Err(Error::RecordTag),
         other => Err(Error::Unknown(other)),
     }
 }
@@ -913,7 +966,7 @@ mod tests {
             let error = answer(number).unwrap_err();
             assert_eq!(error.number(), number);
             assert!(error.to_string().starts_with(&format!("refused with {number}: ")));
-            assert_eq!(matches!(error, Error::Unknown(_)), (7..=10).contains(&number) || number > 18);
+            assert_eq!(matches!(error, Error::Unknown(_)), (7..=10).contains(&number) || number > 20);
         }
     }
 
