@@ -69,6 +69,7 @@ if [ -n "$rust" ]; then check rust tests/rust.sh; fi &
 check c_interface tests/c_interface.sh
 check compare_c tests/compare_c.py --short
 check stores tests/stores.py
+check pages tests/pages.py
 check paper tests/paper.py
 check opener tests/opener_test.py
 wait
@@ -105,6 +106,7 @@ tell library "make lib"
 tell c_interface "the C interface"
 tell compare_c "the comparison through the C interface"
 tell stores "the store and keys that name a set"
+tell pages "page records"
 if [ -n "$rust" ]; then
     tell rust "the Rust crate and the command"
 else

@@ -11,7 +11,7 @@
 
 _Static_assert(sizeof(size_t) == 8, "requests hold n and l of 64 bits");
 
-enum { MARGIN = 64, MARK = 0xC3, FIELDS = 8 };
+enum { MARGIN = 64, MARK = 0xC3, FIELDS = 10 };
 
 static unsigned long request;
 
@@ -237,6 +237,51 @@ static void wrap(char **fields) {
     take_back(dst, 1);
 }
 
+#define KEYS st.pointer, st.length, sealing.pointer, sealing.length, tagging.pointer, tagging.length
+
+static uint32_t number32(const char *text) {
+    if (number(text) > UINT32_MAX) stop("'%s' has more than 32 bits", text);
+    return (uint32_t)number(text);
+}
+
+/* fields: the operation, the store, the sealing key, the tag key, number, day, title, start, body, destination */
+static void page_write(char **fields) {
+    struct lent st = lend(fields[1]), sealing = lend(fields[2]), tagging = lend(fields[3]), title = lend(fields[6]), start = lend(fields[7]);
+    struct lent body = lend(fields[8]), dst = lend(fields[9]);
+    answer(labyrinth_page_write(KEYS, number32(fields[4]), number32(fields[5]), title.pointer, title.length, start.pointer, start.length,
+                                body.pointer, body.length, dst.pointer, dst.length), dst);
+    take_back(st, 0);
+    take_back(sealing, 0);
+    take_back(tagging, 0);
+    take_back(title, 0);
+    take_back(start, 0);
+    take_back(body, 0);
+    take_back(dst, 1);
+}
+
+/* fields: the operation, the store, the sealing key, the tag key, the record, destination */
+static void page_open(char **fields) {
+    struct lent st = lend(fields[1]), sealing = lend(fields[2]), tagging = lend(fields[3]), record = lend(fields[4]), dst = lend(fields[5]);
+    answer(labyrinth_page_open(KEYS, record.pointer, record.length, dst.pointer, dst.length), dst);
+    take_back(st, 0);
+    take_back(sealing, 0);
+    take_back(tagging, 0);
+    take_back(record, 0);
+    take_back(dst, 1);
+}
+
+/* what the four pointers point to holds ones before the call */
+static void page_catalogue(const char *hex) {
+    struct lent record = lend(hex);
+    uint64_t mark = 0x0101010101010101u * MARK, out[5] = {mark, UINT64_MAX, mark, UINT64_MAX, mark};
+    uint32_t small[5] = {(uint32_t)mark, UINT32_MAX, (uint32_t)mark, UINT32_MAX, (uint32_t)mark};
+    uint8_t r = labyrinth_page_catalogue(record.pointer, record.length, &small[1], &small[3], &out[1], &out[3]);
+    printf("%u %lu %lu %llu %llu\n", r, (unsigned long)small[1], (unsigned long)small[3], (unsigned long long)out[1], (unsigned long long)out[3]);
+    for (int i = 0; i < 5; i += 2)
+        if (out[i] != mark || small[i] != (uint32_t)mark) stop("a byte was written beside a number");
+    take_back(record, 0);
+}
+
 int main(void) {
     char *line = NULL;
     size_t room = 0;
@@ -253,6 +298,9 @@ int main(void) {
         else if (count == 6 && (strcmp(fields[0], "key_cbc_seal") == 0 || strcmp(fields[0], "key_cbc_open") == 0)) key_run(fields, 0);
         else if (count == 7 && strcmp(fields[0], "key_ctr") == 0) key_run(fields, 1);
         else if (count == 5 && strncmp(fields[0], "key_", 4) == 0) key_block_or_tag(fields);
+        else if (count == 10 && strcmp(fields[0], "page_write") == 0) page_write(fields);
+        else if (count == 2 && strcmp(fields[0], "page_catalogue") == 0) page_catalogue(fields[1]);
+        else if (count == 6 && strcmp(fields[0], "page_open") == 0) page_open(fields);
         else if (count == 3 && strcmp(fields[0], "mix_row") == 0) mix_row(fields[1], fields[2]);
         else if (count == 5 && (strcmp(fields[0], "wrap") == 0 || strcmp(fields[0], "unwrap") == 0)) wrap(fields);
         else if (count == 5 && (strcmp(fields[0], "cmac") == 0 || strcmp(fields[0], "cmac_verify") == 0)) tag(fields);

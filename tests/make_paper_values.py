@@ -22,6 +22,7 @@ import archivists_sets
 import archivists_wraps
 import labyrinth as lab
 import modes
+import page_records
 import papers
 from papers import SIZES
 
@@ -591,6 +592,104 @@ def card_wrapped():
     yield from (f"master-key {digits(CARD_MASTER[at : at + 16])}" for at in range(0, len(CARD_MASTER), 16))
 
 
+# ---- page records
+
+# the sealing key, the tag key, number, day, title, start block and body
+PAGE_TITLE, PAGE_BODY = b"The first page of the second box", b"This page was kept in a record. "
+PAGE_TRACED = (bytes_of("page sealing key", 24), bytes_of("page tag key", 16), 70000, 20410, PAGE_TITLE, bytes_of("page start", 16), PAGE_BODY)
+
+
+def page_run(blocks, l, tag_l, number, day, title):
+    """The start block is the first of those with this label and 0, 1, .. by which a byte 15 stands within the first sealed block, if there is one."""
+    sealing, body = bytes_of(f"page sealing key {blocks}", 8 * l), page(16 * blocks)
+    starts = (bytes_of(f"page start {blocks} {i}", 16) for i in itertools.count())
+    start = next(start for start in starts if not blocks or 0x15 in lab.Labyrinth(1, sealing).encrypt_block(modes.xor(start, body[:16])))
+    return sealing, bytes_of(f"page tag key {blocks}", 8 * tag_l), number, day, title.ljust(32), start, body
+
+
+PAGE_RUNS = (
+    page_run(0, 2, 4, 0, 2**32 - 1, b"No block"),
+    page_run(1, 4, 3, 2**32 - 1, 0, b"One block"),
+    page_run(3, 3, 2, 258, 65536, b"Three blocks"),
+)
+
+
+def page_ciphers(sealing, tagging):
+    return [page_records.Cipher(archivists_sets.PUBLISHED, lab.Labyrinth(1, key).expanded_key_bytes()) for key in (sealing, tagging)]
+
+
+@functools.cache
+def made_record(sealing, tagging, *given, rules=page_records.Records()):
+    return rules.written(*page_ciphers(sealing, tagging), *given)
+
+
+def trace_page():
+    """A record, its parts, the tag's steps, and the body opened block by block."""
+    sealing, tagging, number, day, *_, body = PAGE_TRACED
+    record = made_record(*PAGE_TRACED)
+    blocks, end = len(body) // 16, len(record) - 17
+    yield f"page blocks {blocks} bytes {len(record)}"
+    for name, data in (("sealing", sealing), ("tagging", tagging), ("record", record)):
+        yield from byte_lines(name, data)
+    at = 0
+    for what, (byte, width) in (
+        *zip((f"number {number}", f"day {day}", "title", "start"), papers.PAGE_HEAD),
+        *((f"block {i}", papers.PAGE_BLOCK) for i in range(blocks)),
+        ("tag", papers.PAGE_TAG),
+    ):
+        if record[at] != byte:
+            raise SystemExit(f"make_paper_values.py: no {byte:02X} at {at}")
+        yield from ("", f"byte {at} {what}")
+        yield from byte_lines("command", record[at : at + 1])
+        yield from byte_lines("operand", record[at + 1 : at + 1 + width])
+        at += 1 + width
+    yield from ("", f"tag bytes {end}")
+    for name, data in Tags(tagging).steps(record[:end]):
+        if name != "message":
+            yield from byte_lines(name, data)
+    cipher, before = lab.Labyrinth(1, sealing), record[44:60]
+    for i in range(blocks):
+        sealed = record[61 + 17 * i : 77 + 17 * i]
+        unsealed = cipher.decrypt_block(sealed)
+        yield from ("", f"open {i}")
+        for name, data in (("sealed", sealed), ("U", unsealed), ("before", before), ("body", modes.xor(unsealed, before))):
+            yield from byte_lines(name, data)
+        before = sealed
+
+
+def page_vectors():
+    for at, given in enumerate(PAGE_RUNS):
+        sealing, tagging, number, day, title, start, body = given
+        yield from [""] * (at > 0)
+        yield f"page l {len(sealing) // 8} tag-l {len(tagging) // 8} blocks {len(body) // 16} number {number} day {day}"
+        for name, data in (("sealing", sealing), ("tagging", tagging), ("title", title), ("start", start), ("body", body), ("record", made_record(*given))):
+            yield from byte_lines(name, data)
+
+
+def refused_records():
+    """The tag key and the string, from the traced record, and the number."""
+    record, tagging = made_record(*PAGE_TRACED), PAGE_TRACED[1]
+    flip = lambda at, bit: record[:at] + bytes([record[at] ^ bit]) + record[at + 1 :]
+    yield tagging, flip(1, 0x01), 20
+    yield tagging, flip(42, 0x20), 20
+    yield tagging, flip(61, 0x80), 20
+    yield tagging, flip(110, 0x01), 20
+    yield tagging, record[:60] + record[77:94] + record[60:77] + record[94:], 20
+    yield tagging, record[:77] + record[94:], 20
+    yield PAGE_RUNS[2][1], record, 20
+    yield tagging, flip(77, 0x0A), 19
+    yield tagging, record[:-1], 19
+    yield tagging, record + b"\x00", 19
+
+
+def page_refused():
+    for at, (tagging, data, number) in enumerate(refused_records()):
+        yield from [""] * (at > 0)
+        yield f"refused bytes {len(data)} number {number}"
+        for name, key in (("sealing", PAGE_TRACED[0]), ("tagging", tagging), ("record", data)):
+            yield from byte_lines(name, key)
+
+
 # ---- the tape
 
 def word_to_08():
@@ -734,6 +833,12 @@ def exchanged(data):
     return data[len(data) // 2 :] + data[: len(data) // 2]
 
 
+@functools.cache
+def readings_of(wrong):
+    """The lines of a kind of wrong readings, worked once."""
+    return list(wrong())
+
+
 def wrong_readings():
     nibbles = [lab.S[(x % 16) * 16 + x // 16] for x in range(256)]
     back = [nibbles.index(y) for y in range(256)]
@@ -808,7 +913,7 @@ def wrong_counters():
     def by_u(c, start, q, length):
         return stream(c, "big", 2 ** (8 * len(start)), start, q, length, c.decrypt_block)
 
-    first = len(list(wrong_readings())) + 1
+    first = 1 + len(readings_of(wrong_readings))
     for number, reading in enumerate((up, short, cut, no_offset, in_bytes, by_u), first):
         words = []
         for n, l, key, start, q, length in (*CTR_RUNS, *CARRY_RUNS):
@@ -859,7 +964,7 @@ def wrong_tags():
         dict(block=by_u),
         dict(tag=lambda self, message, length: self.whole(message)[-length:]),
     )
-    first = len(list(wrong_readings())) + len(list(wrong_counters())) + 1
+    first = 1 + sum(map(len, map(readings_of, (wrong_readings, wrong_counters))))
     for number, parts in enumerate(readings, first):
         wrong = type("Wrong", (Tags,), parts)
         words = ("same" if wrong(key).tag(page(length), tag) == made_tag(key, page(length), tag) else "differs" for _, key, length, tag in CMAC_RUNS)
@@ -897,7 +1002,7 @@ def wrong_wraps():
         dict(check=bytes.fromhex("A65959A600000010")),
         dict(enciphered=Wraps.deciphered, deciphered=Wraps.enciphered),
     )
-    first = len(list(wrong_readings())) + len(list(wrong_counters())) + len(list(wrong_tags())) + 1
+    first = 1 + sum(map(len, map(readings_of, (wrong_readings, wrong_counters, wrong_tags))))
     for at, parts in enumerate(readings, first):
         wrong = type("Wrong", (Wraps,), parts)
         for l, master, key in KW_RUNS[:2]:
@@ -905,6 +1010,46 @@ def wrong_wraps():
             if made == made_wrapped(master, key) or wrong(master).unwrapped(made) != key:
                 raise SystemExit(f"make_paper_values.py: wrong reading {at} is not wrong, or does not come back")
         yield f"{at}   {digits(wrong(KW_RUNS[0][1]).wrapped(KW_RUNS[0][2]))}"
+
+
+def wrong_pages():
+    """Wrong readings of page records: the tag that each writes to the traced page. Each opens what it wrote."""
+    def tag(of):
+        return dict(tag=lambda self, sealing, tagging, page: modes.cmac(tagging, of(self, page)))
+
+    def apart(run, sealing, start, blocks):
+        return b"".join(run(sealing, start, blocks[at : at + 16]) for at in range(0, len(blocks), 16))
+
+    def operands(self, page):
+        return b"".join((page.number.to_bytes(4, "little"), page.day.to_bytes(4, "little"), page.title, page.start, page.sealed))
+
+    readings = (
+        dict(order="big"),
+        dict(head=(papers.PAGE_HEAD[1], papers.PAGE_HEAD[0], *papers.PAGE_HEAD[2:])),
+        dict(
+            seal=lambda self, sealing, tagging, start, body: modes.cbc_encrypt(tagging, start, body),
+            opened=lambda self, sealing, tagging, page: modes.cbc_decrypt(tagging, page.start, page.sealed),
+        ),
+        dict(
+            seal=lambda self, sealing, tagging, start, body: apart(modes.cbc_encrypt, sealing, start, body),
+            opened=lambda self, sealing, tagging, page: apart(modes.cbc_decrypt, sealing, page.start, page.sealed),
+        ),
+        tag(lambda self, page: self.front(page) + b"\x1f"),
+        tag(lambda self, page: self.front(page) + b"\x1f" + bytes(16)),
+        tag(lambda self, page: self.front(page)[60:]),
+        tag(lambda self, page: page.sealed),
+        tag(operands),
+        dict(tag=lambda self, sealing, tagging, page: modes.cmac(sealing, self.front(page))),
+    )
+    first = 1 + sum(map(len, map(readings_of, (wrong_readings, wrong_counters, wrong_tags, wrong_wraps))))
+    right = made_record(*PAGE_TRACED)
+    for at, parts in enumerate(readings, first):
+        rules, ciphers = type("Wrong", (page_records.Records,), parts)(), page_ciphers(*PAGE_TRACED[:2])
+        made = made_record(*PAGE_TRACED, rules=rules)
+        read = rules.parts(made)
+        if made[-16:] == right[-16:] or not rules.right(*ciphers, read) or (*read[:4], rules.opened(*ciphers, read)) != PAGE_TRACED[2:]:
+            raise SystemExit(f"make_paper_values.py: wrong reading {at} is not wrong, or does not come back")
+        yield f"{at}   {digits(made[-16:])}"
 
 
 def values():
@@ -927,15 +1072,19 @@ def values():
         "trace-wrap": trace_wrap(),
         "vectors-kw": kw_vectors(),
         "vectors-kw-refused": kw_refused(),
+        "trace-page": trace_page(),
+        "vectors-page": page_vectors(),
+        "vectors-page-refused": page_refused(),
         "card": card(),
         "card-tag": card_tag(),
         "card-tables": card_tables(),
         "card-wrapped": card_wrapped(),
         "tape": tape(),
-        "wrong-readings": wrong_readings(),
-        "wrong-readings-ctr": wrong_counters(),
-        "wrong-readings-cmac": wrong_tags(),
-        "wrong-readings-kw": wrong_wraps(),
+        "wrong-readings": readings_of(wrong_readings),
+        "wrong-readings-ctr": readings_of(wrong_counters),
+        "wrong-readings-cmac": readings_of(wrong_tags),
+        "wrong-readings-kw": readings_of(wrong_wraps),
+        "wrong-readings-page": readings_of(wrong_pages),
     }
     for n in (2, 4):
         key, block, _ = traced[n]

@@ -3,8 +3,8 @@
 sizes, CBC and CTR, through target/dist/liblabyrinth.a, which `make lib` makes. tests/verifier.py, written from the second edition and the opener
 alone, makes the tags that our library makes, and both say yes and no to the same. Both programs agree with the values of the paper, the opener of the
 tags with what E gives; they open the paper's card and verify its tag, and the opener with other tables opens the card that has tables of its own.
-tests/unwrapper.py, which follows the paper over the opener's E and U, wraps and unwraps keys as our library does, and agrees with the paper. Then
-what must be noticed: an altered sealed byte, an altered bit of tag, message or key, another key, a wrong counter, wrong masks, an altered paper.
+tests/unwrapper.py, which follows the paper over the opener's E and U, wraps and unwraps keys as our library does, and agrees with the paper; so does
+tests/record_opener.py, over the opener and the verifier, with page records. Then what must be noticed: an altered sealed byte, an altered bit of tag, message or key, another key, a wrong counter, wrong masks, an altered paper.
 
 Word lines have check sums since the fourth edition; the opener does not know them, and gets the paper without them. tests/paper.py holds them.
 
@@ -23,12 +23,13 @@ import unittest.mock
 
 sys.dont_write_bytecode = True
 HERE = os.path.dirname(os.path.abspath(__file__))
-OPENER, VERIFIER, UNWRAPPER = (os.path.join(HERE, name) for name in ("opener.py", "verifier.py", "unwrapper.py"))
+OPENER, VERIFIER, UNWRAPPER, RECORDS = (os.path.join(HERE, name) for name in ("opener.py", "verifier.py", "unwrapper.py", "record_opener.py"))
 sys.path.insert(0, HERE)
 import make_paper_values
 import opener
 import paper
 import papers
+import record_opener
 import unwrapper
 import verifier
 
@@ -37,8 +38,11 @@ WRITTEN = {
     OPENER: "cf5e5b42334352123761949f7a86983bb3adf21c2f8c9143e117b3384fd5f862",
     VERIFIER: "8ce88397172defc8fe2f7cde41836263f3be50de593d9884f5e276fc84ceba40",
 }
-CHECKED = {OPENER: "996 checked", VERIFIER: "209 compared", UNWRAPPER: "211 compared"}  # what each program's own check says of the paper
-COUNTS = {"CBC pages": 45, "CTR pages": 171, "tags": 315, "tags that get a no": 678, "wrapped keys": 45, "wrapped keys refused": 90, "refusals": 28, "alterations": 150}
+CHECKED = {OPENER: "996 checked", VERIFIER: "209 compared", UNWRAPPER: "211 compared", RECORDS: "228 compared"}  # what each program's own check says of the paper
+COUNTS = {
+    "CBC pages": 45, "CTR pages": 171, "tags": 315, "tags that get a no": 678, "wrapped keys": 45, "wrapped keys refused": 90, "page records": 63,
+    "page records refused": 378, "refusals": 28, "alterations": 185,
+}  # fmt: skip
 WORD_SUM = re.compile(r"^(\S.* 0x[0-9A-F]{16}) +: [0-9A-F]{4}$", re.M)  # a word line with its check sum
 FAILURES = []
 COUNTED = dict.fromkeys(COUNTS, 0)
@@ -257,6 +261,49 @@ def wrong_wrapping(rng):
             differ(f"unwrapped, {name}", unwrapper.unwrap(2, master, wrapped), key)
 
 
+# ---- page records
+
+def record_by_record(rng):
+    """Records of some sizes and of each l of both keys, written, listed and opened by both; and refused by both with a byte altered, cut, or put in."""
+    for l in (2, 3, 4):
+        for tag_l in (2, 3, 4):
+            for blocks in (0, 1, 2, 3, 4, 7, 20):
+                name = f"a record of {blocks} blocks, l {l}, l of the tag key {tag_l}"
+                given = rng.randbytes(8 * l), rng.randbytes(8 * tag_l), rng.getrandbits(32), rng.getrandbits(32), rng.randbytes(32), rng.randbytes(16), rng.randbytes(16 * blocks)
+                sealing, tagging, number, day, title, _, body = given
+                record = paper.our_record(*given)
+                same(f"{name}: written", record_opener.written(*given), record)
+                same(f"{name}: listed", (record_opener.entry(record), paper.our_entry(record)), ((number, day, blocks, title),) * 2)
+                same(f"{name}: opened", (record_opener.opened(sealing, tagging, record), paper.our_body(sealing, tagging, record)), (body, body))
+                COUNTED["page records"] += 1
+                at = rng.randrange(len(record))
+                commands = {0, 5, 10, 43, *range(60, len(record), 17)}
+                altered = record[:at] + bytes([record[at] ^ 1 << rng.randrange(8)]) + record[at + 1 :]
+                cases = [(sealing, tagging, altered, 19 if at in commands else 20), (sealing, rng.randbytes(8 * tag_l), record, 20)]
+                cases += [(sealing, tagging, other, 19) for other in (record[:-1], record + rng.randbytes(1), record + rng.randbytes(17), record[: rng.randrange(77)])]
+                for *keys, other, refused in cases:
+                    same(f"{name}: refused", record_opener.opened(*keys, other), refused)
+                    paper.our_body(*keys, other, number=refused)
+                    same(f"{name}: refused, listed", (record_opener.entry(other) == 19, paper.our_entry(other, refused % 20) == (0, 0, 0, b"")), (refused == 19,) * 2)
+                    COUNTED["page records refused"] += 1
+
+
+def wrong_records(rng):
+    """What is wrong in the layout, in the tag or in the opening is noticed."""
+    given = rng.randbytes(16), rng.randbytes(24), 258, 772, rng.randbytes(32), rng.randbytes(16), rng.randbytes(48)
+    record = paper.our_record(*given)
+    right = verifier.tag
+    for name, of, other in (
+        ("no byte 10 at the front", record_opener, dict(COMMANDS={1: 0x10, 5: 0x11, 10: 0x12, 43: 0x13})),
+        ("the tag of one byte less", verifier, dict(tag=lambda l, key, message, length: right(l, key, message[:-1], length))),
+        ("the tag of 1F too", verifier, dict(tag=lambda l, key, message, length: right(l, key, message + b"\x1f", length))),
+        ("opened by CTR", opener, dict(cbc_open=lambda page, k, n, start: opener.ctr(page, k, n, start, 0))),
+        ("E in the place of U", opener, dict(U=opener.E)),
+    ):
+        with unittest.mock.patch.multiple(of, **other):
+            differ(f"a record, {name}", record_opener.opened(*given[:2], record), given[-1])
+
+
 def command(program, *words):
     return subprocess.run([sys.executable, "-B", program, *words], capture_output=True, text=True, timeout=60)
 
@@ -296,9 +343,9 @@ def altered_tags(text, blocks, rng):
         yield said, text.replace(said, other)
 
 
-def altered_wraps(text, blocks, rng):
-    """What of the wrapped keys was altered, and the paper with it: a digit of a line of each name, and of a head line of each kind."""
-    for block in ("trace-wrap", "vectors-kw", "vectors-kw-refused", "card-wrapped"):
+def altered_wraps(text, blocks, rng, names=("trace-wrap", "vectors-kw", "vectors-kw-refused", "card-wrapped")):
+    """What of the wrapped keys, or of the page records, was altered, and the paper with it: a digit of a line of each name, and of a head line of each kind."""
+    for block in names:
         lines = [*paper.altered(blocks[block][2])]
         for name in sorted({line.split()[0] for line, _ in lines}):
             line, other = rng.choice([one for one in lines if one[0].split()[0] == name])
@@ -360,6 +407,12 @@ def with_the_paper(place, rng):
         with contextlib.redirect_stdout(io.StringIO()):
             status = unwrapper.check(copy)
         differ(f"an altered paper: {line}", status, 0)
+    checked(RECORDS, paper.PAPER)
+    for line, other in altered_wraps(text, blocks, rng, ("trace-page", "vectors-page", "vectors-page-refused")):
+        written(copy, other)
+        with contextlib.redirect_stdout(io.StringIO()):
+            status = record_opener.check(copy)
+        differ(f"an altered paper: {line}", status, 0)
     # runs that came into the paper after the opener was written; and of the tags, which it does not know, what E gives
     checker = opener.Checker(text)
     runs = checker.records("vectors-ctr-carry")
@@ -400,6 +453,20 @@ def with_the_paper(place, rng):
     for given, wanted in ((master["wrapped"], (0, "".join(page_said["key"].split()) + "\n")), (master["wrapped"][:-1] + "0", (1, "18\n")), ("00" * 16, (1, "17\n"))):
         done = command(UNWRAPPER, "unwrap", "-l", master["master-l"], "--master", master["master-key"], given)
         same(f"the card's wrapped key, {given}", (done.returncode, done.stdout), wanted)
+    # the traced record
+    file_of = {name: os.path.join(place, name) for name in ("record", "altered", "cut", "opened")}
+    v = checker.records("trace-page")[0][1]
+    for name, data in (("record", v["record"]), ("altered", v["record"][:61] + bytes([v["record"][61] ^ 1]) + v["record"][62:]), ("cut", v["record"][:-1])):
+        with open(file_of[name], "wb") as file:
+            file.write(data)
+    words = ["-l", str(len(v["sealing"]) // 8), "--key", v["sealing"].hex(), "--tag-l", str(len(v["tagging"]) // 8), "--tag-key", v["tagging"].hex()]
+    for name, wanted in (("altered", (1, "20\n")), ("cut", (1, "19\n")), ("record", (0, ""))):
+        done = command(RECORDS, "open", *words, file_of[name], file_of["opened"])
+        same(f"the paper's record, {name}", (done.returncode, done.stdout, os.path.exists(file_of["opened"])), (*wanted, name == "record"))
+    with open(file_of["opened"], "rb") as file:
+        same("the paper's record, opened, is in the text", f'the page opens to "{file.read().decode("ascii", "replace")}"' in text, True)
+    done = command(RECORDS, "list", file_of["record"])
+    same("the paper's record, listed", done.stdout, "number {2}, day {3}, blocks 2, title '{4}'\n".format(*make_paper_values.PAGE_TRACED[:4], make_paper_values.PAGE_TITLE.decode()))
     words, tag = ["-l", said["tag-l"], "--key", said["tag-key"]], bytes.fromhex(said["tag"])
     done = command(VERIFIER, "tag", *words, "--length", said["tag-length"], sealed)
     same("the card's tag, made", (done.returncode, done.stdout), (0, tag.hex().upper() + "\n"))
@@ -431,6 +498,8 @@ def main(words):
         wrong_masks(rng)
         key_by_key(rng)
         wrong_wrapping(rng)
+        record_by_record(rng)
+        wrong_records(rng)
         with_the_paper(place, rng)
         as_written()
     same("tried", COUNTED, COUNTS)

@@ -32,10 +32,11 @@ BYTE_LINE = re.compile(r"^(\S+) +((?:[0-9A-F]{2}){1,4}(?: (?:[0-9A-F]{2}){1,4}){
 WORD_LINE = re.compile(r"^(\S.*\S) +: ([0-9A-F]{4})$")
 WORD_CELL = re.compile(r"^(\S+) +(0x[0-9A-F]{16}(?: 0x[0-9A-F]{16})?)$")
 READ = {
-    "blocks": 34, "byte strings": 280, "half-blocks": 396, "block vectors": 18, "CBC runs": 3, "CTR runs": 7, "traced blocks": 3, "tags": 8,
-    "flipped bits of tags and messages": 2080, "wrapped keys": 8, "flipped bits of wrapped keys": 3712, "refused strings": 9, "tapes": 514,
+    "blocks": 38, "byte strings": 358, "half-blocks": 396, "block vectors": 18, "CBC runs": 3, "CTR runs": 7, "traced blocks": 3, "tags": 8,
+    "flipped bits of tags and messages": 2080, "wrapped keys": 8, "flipped bits of wrapped keys": 3712, "refused strings": 19, "tapes": 514,
+    "page records": 4, "flipped bits of records": 3280,
 }
-SUMMED = [586, 354, 16]  # lines with check sums: of bytes, of words, of Table 1
+SUMMED = [766, 354, 16]  # lines with check sums: of bytes, of words, of Table 1
 
 
 class Fault(Exception):
@@ -59,7 +60,7 @@ def ours(place):
     library.labyrinth_mix.restype = ctypes.c_uint64
     for name in (
         "encipher", "decipher", "cbc_seal", "cbc_open", "ctr", "cmac", "cmac_verify", "store_fresh", "store_load", "expand", "key_ctr", "key_cmac",
-        "key_cmac_verify", "key_wrap", "key_unwrap",
+        "key_cmac_verify", "key_wrap", "key_unwrap", "page_write", "page_catalogue", "page_open",
     ):  # fmt: skip
         getattr(library, f"labyrinth_{name}").restype = ctypes.c_uint8
     return library
@@ -120,6 +121,34 @@ def our_wrap(name, l, master, source, number=0):
     called(name, *our_key(l, master), source, out, number=number)
     same("what a refusal left", number == 0 or out.raw == b"\x5a" * len(out), True)
     return out.raw
+
+
+@functools.lru_cache(maxsize=None)
+def our_record(sealing, tagging, number, day, title, start, body):
+    """The record that the library writes, by the published tables."""
+    (store, one), (_, two) = our_key(len(sealing) // 8, sealing), our_key(len(tagging) // 8, tagging)
+    out = room(papers.record_length(len(body) // 16))
+    called("page_write", store, one, two, ctypes.c_uint32(number), ctypes.c_uint32(day), title, start, body, out)
+    return out.raw
+
+
+@functools.lru_cache(maxsize=None)
+def our_body(sealing, tagging, record, number=0):
+    """What the library opens a record to; if it is refused, the destination must be as it was."""
+    (store, one), (_, two) = our_key(len(sealing) // 8, sealing), our_key(len(tagging) // 8, tagging)
+    out = room(16 * max((len(record) - 77) // 17, 0))
+    out.raw = b"\x5a" * len(out)
+    called("page_open", store, one, two, record, out, number=number)
+    same("what a refusal left", number == 0 or out.raw == b"\x5a" * len(out), True)
+    return out.raw
+
+
+@functools.lru_cache(maxsize=None)
+def our_entry(record, refused=0):
+    """What the library's catalogue reader sees: number, day, blocks, and the title at its place; all zero and none if it is refused."""
+    number, day, blocks, at = ctypes.c_uint32(5), ctypes.c_uint32(5), ctypes.c_uint64(5), ctypes.c_uint64(5)
+    called("page_catalogue", record, *map(ctypes.byref, (number, day, blocks, at)), number=refused)
+    return number.value, day.value, blocks.value, record[at.value :][:32] if at.value else b""
 
 
 @functools.lru_cache(maxsize=None)
@@ -312,9 +341,8 @@ def small_values(text):
             same(f"ours: {line}", [LIBRARY.labyrinth_mix(ctypes.c_uint64(given[0]))], result)
 
 
-@functools.lru_cache(maxsize=None)
 def made(name):
-    return list(getattr(make_paper_values, name)())
+    return make_paper_values.readings_of(getattr(make_paper_values, name))
 
 
 def wrong_readings(text):
@@ -700,6 +728,114 @@ def wrong_wraps(text):
     same("the wrong readings of KW", text.splitlines(), made("wrong_wraps"))
 
 
+@functools.lru_cache(maxsize=None)
+def page_record(sealing, tagging, number, day, title, start, body, record):
+    """A record by both programs, written, listed and opened; with any bit altered ours refuses to open it. How many bits."""
+    same("the lengths", (len(title), len(start), len(body) % 16, len(record)), (32, 16, 0, papers.record_length(len(body) // 16)))
+    sealed = their("cbc_encrypt", 1, sealing, start, body)
+    same("theirs, opened", body, their("cbc_decrypt", 1, sealing, start, sealed))
+    four = lambda value: value.to_bytes(4, "little")
+    front = b"\x10" + four(number) + b"\x11" + four(day) + b"\x12" + title + b"\x13" + start
+    front += b"".join(b"\x15" + sealed[at : at + 16] for at in range(0, len(sealed), 16))
+    same("theirs, laid out", record.hex(), (front + b"\x1f" + their("cmac", 1, tagging, front)).hex())
+    same("ours, written", record.hex(), our_record(sealing, tagging, number, day, title, start, body).hex())
+    same("ours, listed", our_entry(record), (number, day, len(body) // 16, title))
+    same("ours, opened", our_body(sealing, tagging, record), body)
+    commands = {0, 5, 10, 43, *range(60, len(record), 17)}
+    others = list(flipped(record))
+    for bit, other in enumerate(others):
+        refused = 19 if bit // 8 in commands else 20
+        our_body(sealing, tagging, other, number=refused)
+        same("ours, listed, a bit altered", our_entry(other, refused % 20) == (0, 0, 0, b""), refused == 19)
+    return len(others)
+
+
+def page_trace(text):
+    """The record, each of its parts, the tag's steps, and each block opened."""
+    (first, *lines), *rest = records(text)
+    _, blocks, length = head(first, "blocks", "bytes")
+    sealing, tagging, record = parts(lines, "sealing", "tagging", "record")
+    same("the lengths", (len(record), length), (papers.record_length(blocks), len(record)))
+    shown, (tag_head, *tag_lines), opened = rest[: 5 + blocks], rest[5 + blocks], rest[6 + blocks :]
+    at, operands = 0, []
+    names = ["number", "day", "title", "start", *(f"block {i}" for i in range(blocks)), "tag"]
+    for (first, *lines), name, (byte, width) in zip(shown, names, (*papers.PAGE_HEAD, *[papers.PAGE_BLOCK] * blocks, papers.PAGE_TAG), strict=True):
+        command_byte, operand = parts(lines, "command", "operand")
+        number = f" {int.from_bytes(operand, 'little')}" if width == 4 else ""
+        same("where a part stands", first, f"byte {at} {name}{number}")
+        same(f"the part at {at}", (command_byte, len(operand), command_byte + operand), (bytes([byte]), width, record[at : at + 1 + width]))
+        operands.append(operand)
+        at += 1 + width
+    same("the parts are all", at, length)
+    number, day = (int.from_bytes(operand, "little") for operand in operands[:2])
+    title, start, *sealed, tag = operands[2:]
+    # the tag's steps
+    message = record[: length - 17]
+    same("what is tagged", tag_head, f"tag bytes {len(message)}")
+    zero, one, two, last, chain, whole = parts(tag_lines, "L", "K1", "K2", "last", "chain", "whole")
+    same("L, K1, K2", (zero, one, two), (their("encrypt_block", 1, tagging, bytes(16)), modes._dbl(zero), modes._dbl(one)))
+    end = message[(len(message) - 1) // 16 * 16 :]
+    same("the last part, which is short", (len(end) < 16, last), (True, modes.xor(end + b"\x80" + bytes(15 - len(end)), two)))
+    same("the chain", chain, their("cbc_encrypt", 1, tagging, bytes(16), message[: len(message) - len(end)])[-16:])
+    same("the whole, and the tag", (whole, tag), (their("encrypt_block", 1, tagging, modes.xor(chain, last)), whole))
+    # the blocks
+    body, before = b"", start
+    for (first, *lines), i, block in zip(opened, range(blocks), sealed, strict=True):
+        given, unsealed, mask, plain = parts(lines, "sealed", "U", "before", "body")
+        same(f"block {i}", (first, given, mask), (f"open {i}", block, before))
+        same(f"U and XOR of block {i}", (unsealed, plain), (their("decrypt_block", 1, sealing, block), modes.xor(unsealed, before)))
+        body, before = body + plain, block
+    COUNTED["flipped bits of records"] += page_record(sealing, tagging, number, day, title, start, body, record)
+    same("the texts", (title, body), (make_paper_values.PAGE_TITLE, make_paper_values.PAGE_BODY))
+    TRACED["page"] = {"given": (sealing, tagging, number, day, title, start, body, record)}
+    COUNTED["page records"] += 1
+
+
+def pages(text):
+    """Records of no block, of one and of three; each l of both keys; a byte 15 inside a sealed block."""
+    made = []
+    for first, *lines in records(text):
+        kind, l, tag_l, blocks, number, day = head(first, "l", "tag-l", "blocks", "number", "day")
+        sealing, tagging, title, start, *rest, record = parts(lines, "sealing", "tagging", "title", "start", *["body"] * (blocks > 0), "record")
+        body = b"".join(rest)
+        same("the kind and the lengths", (kind, len(sealing), len(tagging), len(body)), ("page", 8 * l, 8 * tag_l, 16 * blocks))
+        COUNTED["flipped bits of records"] += page_record(sealing, tagging, number, day, title, start, body, record)
+        made.append((l, tag_l, blocks, number, day, record))
+    same("blocks", [blocks for _, _, blocks, *_ in made], [0, 1, 3])
+    same("each l", [{one[at] for one in made} for at in (0, 1)], [{2, 3, 4}, {2, 3, 4}])
+    same("the least and the largest numbers", {0, 2**32 - 1} < {one[3] for one in made} and {0, 2**32 - 1} < {one[4] for one in made}, True)
+    same("a byte 15 within the first sealed block", [0x15 in one[-1][61:77] for one in made[1:]], [True, True])
+    TRACED["page 3"] = {"tagging": tagging}
+    COUNTED["page records"] += len(made)
+
+
+def pages_refused(text):
+    """Both readers' numbers, and the strings are what the text before them says."""
+    told = []
+    for first, *lines in records(text):
+        kind, length, number = head(first, "bytes", "number")
+        sealing, tagging, record = parts(lines, "sealing", "tagging", "record")
+        same("the kind and the length", (kind, len(record)), ("refused", length))
+        our_body(sealing, tagging, record, number=number)
+        our_entry(record, number % 20)
+        if number == 20:
+            same("theirs: another tag", their("cmac", 1, tagging, record[:-17]) == record[-16:], False)
+        told.append((sealing, tagging, record))
+    sealing, tagging, *_, whole = TRACED["page"]["given"]
+    flip = lambda at, bit: whole[:at] + bytes([whole[at] ^ bit]) + whole[at + 1 :]
+    same("the strings", told, [
+        *((sealing, tagging, one) for one in (
+            flip(1, 0x01), flip(42, 0x20), flip(61, 0x80), flip(110, 0x01), whole[:60] + whole[77:94] + whole[60:77] + whole[94:], whole[:77] + whole[94:],
+        )),
+        (sealing, TRACED["page 3"]["tagging"], whole), (sealing, tagging, flip(77, 0x0A)), (sealing, tagging, whole[:-1]), (sealing, tagging, whole + bytes(1)),
+    ])
+    COUNTED["refused strings"] += len(told)
+
+
+def wrong_pages(text):
+    same("the wrong readings of page records", text.splitlines(), made("wrong_pages"))
+
+
 def card(text):
     """The card, and that its page opens to the sentence in the text."""
     front, back = records(text)
@@ -863,6 +999,9 @@ CHECKS = {
     "trace-wrap": wrap_trace,
     "vectors-kw": kw,
     "vectors-kw-refused": kw_refused,
+    "trace-page": page_trace,
+    "vectors-page": pages,
+    "vectors-page-refused": pages_refused,
     "card": card,
     "card-tag": card_tag,
     "card-wrapped": card_wrapped,
@@ -872,6 +1011,7 @@ CHECKS = {
     "wrong-readings-ctr": wrong_by("wrong_counters"),
     "wrong-readings-cmac": wrong_by("wrong_tags"),
     "wrong-readings-kw": wrong_wraps,
+    "wrong-readings-page": wrong_pages,
 }
 
 
@@ -924,6 +1064,32 @@ def sentences():
     l, _, key = make_paper_values.KW_TRACED
     yield f"one key of {len(key)} bytes, so m is {len(key) // 8}, traced through the first six of its {6 * len(key) // 8} steps"
     yield "`kw l {} key {}`".format(make_paper_values.KW_RUNS[0][0], len(make_paper_values.KW_RUNS[0][2]))
+    pages = wraps + len(made("wrong_wraps"))
+    yield f"\n\n{pages}. The number and the day are written with their highest byte first.\n"
+    yield f"\n{pages + len(made('wrong_pages')) - 1}. The tag is made under the sealing key.\n\n"
+    least, one, most = (papers.record_length(blocks) for blocks in (0, 1, papers.PAGE_BLOCKS[-1]))
+    each, at = one - least, 0
+    for (byte, width), what in zip(papers.PAGE_HEAD, ("the number, 0 to 4294967295, **lowest byte first**", "the day, 0 to 4294967295, lowest byte first", "the title, 32 bytes", "the start block")):
+        yield f"\n| {at} | `{byte:02X}` | bytes {at + 1} to {at + width} | {what} |\n"
+        at += 1 + width
+    end = lambda byte, by, what: f"\n| {at} + {each}{by} | `{byte:02X}` | bytes {at + 1} + {each}{by} to {at + 16} + {each}{by} | {what}"
+    yield end(papers.PAGE_BLOCK[0], "i", "sealed block i; so for each i from 0 to m - 1 |\n")
+    yield end(papers.PAGE_TAG[0], "m", "the tag |\n")
+    yield f"m is the number of blocks of the page, 0 to {papers.PAGE_BLOCKS[-1]:,}."
+    yield f"So a page record has {least} + {each}m bytes: {least} at least, {most:,} at most."
+    yield f"Take {least} from the record's length, and divide by {each}. It must go without a remainder, and the quotient, m, must be 0 to {papers.PAGE_BLOCKS[-1]:,}."
+    yield f"it has {least} bytes and {each} more for each block of the page."
+    yield "Byte 0 must be `10`, byte 5 `11`, byte 10 `12`, byte 43 `13`, byte {0} + {1}i `15` for each i from 0 to m - 1, and byte {0} + {1}m `1F`.".format(at, each)
+    yield f"from byte 0 to byte {at - 1} + {each}m"
+    yield f"Make the tag of the first {at} + {each}m bytes"
+    whole = [blocks for blocks in papers.PAGE_BLOCKS if (at + each * blocks) % 16 == 0]
+    yield "unless m is {}, {}, {} and so on.".format(*whole[:3])
+    same("the blocks with no short last part", whole, [*range(whole[0], papers.PAGE_BLOCKS[-1] + 1, 16)])
+    yield f'The title is "{make_paper_values.PAGE_TITLE.decode()}", as ASCII, and the page opens to "{make_paper_values.PAGE_BODY.decode()}"'
+    traced = make_paper_values.made_record(*make_paper_values.PAGE_TRACED)
+    yield f"`page blocks {len(make_paper_values.PAGE_BODY) // 16} bytes {len(traced)}`"
+    yield f"`tag bytes {len(traced) - 17}`"
+    yield f"`{next(make_paper_values.page_vectors())}`"
     yield "{} to {} bytes and unwrap strings of {} to {}, in steps of 8.".format(*(lengths[at] for lengths in (papers.UNWRAPPED_LENGTHS, papers.WRAPPED_LENGTHS) for at in (0, -1)))
     constant = modes._dbl(b"\x80" + bytes(15))[15]
     yield f"XOR the last byte, byte 15, with `{constant:02X}`."

@@ -72,6 +72,38 @@ def key_lengths(n, source, destination, loaded, sources, fits):
     return 1 if n not in NS else 15 if not loaded else 12 if n != 1 else 17 if source not in sources else 5 if destination != fits else 0
 
 
+# Job 9, a page record: each command's byte with the width of its operand, those before the blocks in their order, a block's and the tag's
+PAGE_HEAD = ((0x10, 4), (0x11, 4), (0x12, 32), (0x13, 16))  # number, day, title, start block
+PAGE_BLOCK, PAGE_TAG = (0x15, 16), (0x1F, 16)
+PAGE_BLOCKS = range(4097)  # none to 4,096
+
+
+def record_length(blocks):
+    """Every command is its byte and its operand, so 77 bytes and 17 for each block."""
+    return sum(1 + width for _, width in (*PAGE_HEAD, *[PAGE_BLOCK] * blocks, PAGE_TAG))
+
+
+def page_key(n, loaded=True):
+    """Of the sealing key, and of the tag key."""
+    return 1 if n not in NS else 15 if not loaded else 12 if n != 1 else 0
+
+
+def page_lengths(title, start, body, destination):
+    """What the writer looks at behind the keys."""
+    whole = body % 16 == 0 and body // 16 in PAGE_BLOCKS
+    return 19 if title != 32 else 6 if start != 16 else 4 if not whole else 5 if destination != record_length(body // 16) else 0
+
+
+def page_writing(sealing, tagging, title, start, body, destination):
+    """A key is its n, and whether its set is loaded."""
+    return page_key(*sealing) or page_key(*tagging) or page_lengths(title, start, body, destination)
+
+
+def page_reading(sealing, tagging, blocks, right, destination):
+    """Of the keyed reader. Any other layout has None for its blocks; whether the tag is right is asked only of a record."""
+    return page_key(*sealing) or page_key(*tagging) or (19 if blocks is None else 20 if not right() else 5 if destination != 16 * blocks else 0)
+
+
 class Store:
     """Job 7, naively: four sets, each a substitution and a row, and what publishers 0 and 1 have taken, where 4 and above is none."""
 

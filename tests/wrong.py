@@ -12,6 +12,7 @@ all their cases first:
     tape_program  the tapes of tests/tapes.py, by the papers and vectors
     rows_c        the C interface's functions on rows, by the archivists' product
     stores        tests/stores.py's, through the C interface: keys that name a set, stores and histories
+    pages         tests/pages.py's, through the C interface: page records
     lines         tests/compare_c.py's, with one seed, through the C interface: long runs and damaged calls
     inner         tests/wrong/inner.txt, functions called by themselves, by what their definitions say, worked out here
     records       tests/c_interface, stores and working keys through the C interface: numbers by the papers, bytes by round trips and by the other functions
@@ -357,20 +358,20 @@ def shown_by_lines(path):
 
 
 @functools.cache
-def stored():
-    """The requests of tests/stores.py, with their kinds and what they must be answered."""
-    test = loaded("stores")
+def requested(name):
+    """The requests of tests/stores.py or tests/pages.py, with their kinds and what they must be answered."""
+    test = loaded(name)
     made = test.cases(test.SEED)[0]
     return [(kind, test.line(request), test.expected(request)) for kind, request in made]
 
 
-def shown_by_stores(path):
-    wrote, ended = run(["stdbuf", "-oL", path], "".join(line for _, line, _ in stored()).encode())
+def shown_by_requests(name, path):
+    wrote, ended = run(["stdbuf", "-oL", path], "".join(line for _, line, _ in requested(name)).encode())
     got = wrote.decode(errors="replace").split("\n")[:-1]
-    for i, ((kind, line, want), answer) in enumerate(zip(stored(), got)):
+    for i, ((kind, line, want), answer) in enumerate(zip(requested(name), got)):
         if answer != want:
             return f"request {i}, {kind}, '{line[:24].strip()}..': {apart(want, answer)}"
-    if len(got) != len(stored()) or ended:
+    if len(got) != len(requested(name)) or ended:
         return f"request {len(got)}: {ended or 'another count of answers'}"
     return None
 
@@ -647,8 +648,9 @@ PROGRAMS = {
         functools.partial(shown_by_calls, "rows_c"),
         lambda: None,
     ),
-    "stores": (LIBRARIES, lines_program, shown_by_stores, stored),
-    "lines": (LIBRARIES, lines_program, shown_by_lines, asked),
+    "stores": (LIBRARIES[:-1], lines_program, functools.partial(shown_by_requests, "stores"), functools.partial(requested, "stores")),
+    "pages": (LIBRARIES[-1:], lines_program, functools.partial(shown_by_requests, "pages"), functools.partial(requested, "pages")),
+    "lines": (LIBRARIES[:-1], lines_program, shown_by_lines, asked),
     "inner": (tuple(INNER), inner, functools.partial(shown_by_calls, "inner"), lambda: None),
     "records": (LIBRARIES, records_program, shown_by_records, lambda: None),
 }
