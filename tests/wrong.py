@@ -271,14 +271,19 @@ def shared(made, place):
     return out
 
 
-INNER = "word_bytes buffers strings numbers mixing rows eight_tables sets labyrinth tape_rules conversions round_trips wrapped_trips catalogue page_trips".split()  # what tests/wrong/inner.txt calls
+INNER = os.path.join(HERE, "wrong", "inner.txt")
+
+
+def crates_called(path):
+    with open(path) as file:
+        return tuple(sorted(set(re.findall(r"\b(\w+)::", file.read()))))
 
 
 def inner(sources, place):
     os.mkdir(os.path.join(place, "inner"))
     root = os.path.join(place, "inner", "lib.rt")
-    shutil.copyfile(os.path.join(HERE, "wrong", "inner.txt"), root)
-    return shared(archive("inner", root, reached(tuple(INNER)), sources, os.path.join(place, "inner.a")), place)
+    shutil.copyfile(INNER, root)
+    return shared(archive("inner", root, reached(crates_called(INNER)), sources, os.path.join(place, "inner.a")), place)
 
 
 # ---- running
@@ -689,7 +694,7 @@ PROGRAMS = {
     "stores": (LIBRARIES[:-1], lines_program, functools.partial(shown_by_requests, "stores"), functools.partial(requested, "stores")),
     "pages": (LIBRARIES[-1:], lines_program, functools.partial(shown_by_requests, "pages"), functools.partial(requested, "pages")),
     "lines": (LIBRARIES[:-1], lines_program, shown_by_lines, asked),
-    "inner": (tuple(INNER), inner, functools.partial(shown_by_calls, "inner"), lambda: None),
+    "inner": (crates_called(INNER), inner, functools.partial(shown_by_calls, "inner"), lambda: None),
     "records": (LIBRARIES, records_program, shown_by_records, lambda: None),
 }
 

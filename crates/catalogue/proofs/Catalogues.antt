@@ -155,12 +155,38 @@ module _ (r : List ℕ) where
   pub title-long : entry r .number ≡ 0 → 43 ≤ length r
   title-long e = omega (arith, record-length r (entry-zero e))
 
+-- ---- what it answers of a record, and of any other bytes
+
+module _ (r : List ℕ) (e : isRecord r ≡ true) where
+  pub entry-yes : entry r ≡ record { number = 0; page = parts r .number; day = parts r .day; blocks = blocks r }
+  unfolding entry
+  entry-yes = rw e
+
+  pub title-yes : titlePart r ≡ parts r .title
+  unfolding titlePart
+  title-yes = rw e
+
+module _ (r : List ℕ) (e : isRecord r ≡ false) where
+  pub entry-no : entry r ≡ record { number = 19; page = 0; day = 0; blocks = 0 }
+  unfolding entry
+  entry-no = rw e
+
+  pub title-no : titlePart r ≡ []
+  unfolding titlePart
+  title-no = rw e
+
+module _ (r : List ℕ) where
+  pub entry-none : (entry r .number ≡ 0 → ⊥) → isRecord r ≡ false
+  entry-none h = by-test (isRecord r) (λ t. absurd (h (ap (λ (a : Entry). a .number) (entry-yes r t)))) (λ f. f)
+
+  pub entry-blocks : entry r .number ≡ 0 → entry r .blocks ≡ blocks r
+  entry-blocks z = ap (λ (a : Entry). a .blocks) (entry-yes r (entry-zero r z))
+
 -- its number: 19 unless it is a record, else 0
 pub catalogue-number : (r : List ℕ) {a : ℕ} → a ≡ entry r .number → Unless (isRecord r ≡ true) (a ≡ 19) (a ≡ 0)
-unfolding entry
 catalogue-number r e =
-    by-test (isRecord r) (λ t. inr (t, e ∙ ap (λ (b : Bool). when b (record { number = 0; page = parts r .number; day = parts r .day; blocks = blocks r }) (refusal r) .number) t))
-    (λ f. inl (λ t. false≢true (sym f ∙ t), e ∙ ap (λ (b : Bool). when b (record { number = 0; page = parts r .number; day = parts r .day; blocks = blocks r }) (refusal r) .number) f))
+    by-test (isRecord r) (λ t. inr (t, e ∙ ap (λ (a : Entry). a .number) (entry-yes r t)))
+    (λ f. inl (λ t. false≢true (sym f ∙ t), e ∙ ap (λ (a : Entry). a .number) (entry-no r f)))
 
 -- ---- the same to the catalogue reader
 

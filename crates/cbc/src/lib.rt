@@ -36,11 +36,11 @@ pub fn seal(store: Store, k: WorkingKey, start: &[u8], src: &[u8], dst: &mut [u8
         return seal_published(k, start, src, dst);
     }
     let n = k.n;
-    let number = labyrinth::under_key(n, sets::is_loaded(store, k.set), 0);
+    let number = labyrinth::under_key(n, stores::is_loaded(store, k.set), 0);
     if number != 0 {
         return number;
     }
-    let v = sets::set_in(store, k.set);
+    let v = stores::set_in(store, k.set);
     let s = v.substitution;
     let g = v.row;
     let t = table_cipher::table_of(g, &s);
@@ -71,11 +71,11 @@ pub fn open(store: Store, k: WorkingKey, start: &[u8], src: &[u8], dst: &mut [u8
         return open_published(k, start, src, dst);
     }
     let n = k.n;
-    let number = labyrinth::under_key(n, sets::is_loaded(store, k.set), 0);
+    let number = labyrinth::under_key(n, stores::is_loaded(store, k.set), 0);
     if number != 0 {
         return number;
     }
-    let set = sets::set_in(store, k.set);
+    let set = stores::set_in(store, k.set);
     let s = set.substitution;
     let g = set.row;
     let t = table_cipher::table_of(g, &s);

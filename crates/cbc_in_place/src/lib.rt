@@ -121,11 +121,11 @@ pub fn open(store: Store, k: WorkingKey, start: &[u8], d: &mut [u8]) -> u8
         return open_published(k, start, d);
     }
     let n = k.n;
-    let number = labyrinth::under_key(n, sets::is_loaded(store, k.set), 0);
+    let number = labyrinth::under_key(n, stores::is_loaded(store, k.set), 0);
     if number != 0 {
         return number;
     }
-    let set = sets::set_in(store, k.set);
+    let set = stores::set_in(store, k.set);
     let s = set.substitution;
     let g = set.row;
     let t = table_cipher::table_of(g, &s);

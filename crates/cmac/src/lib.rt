@@ -91,11 +91,11 @@ pub fn make(store: Store, k: WorkingKey, message: &[u8], dst: &mut [u8]) -> u8
         return make_published(k, message, dst);
     }
     let n = k.n;
-    let number = labyrinth::under_key(n, sets::is_loaded(store, k.set), 0);
+    let number = labyrinth::under_key(n, stores::is_loaded(store, k.set), 0);
     if number != 0 {
         return number;
     }
-    let v = sets::set_in(store, k.set);
+    let v = stores::set_in(store, k.set);
     let s = v.substitution;
     let g = v.row;
     let t = table_cipher::table_of(g, &s);
@@ -112,11 +112,11 @@ pub fn verify(store: Store, k: WorkingKey, message: &[u8], tag: &[u8]) -> Verifi
         return verify_published(k, message, tag);
     }
     let n = k.n;
-    let number = labyrinth::under_key(n, sets::is_loaded(store, k.set), 0);
+    let number = labyrinth::under_key(n, stores::is_loaded(store, k.set), 0);
     if number != 0 {
         return refused(number);
     }
-    let set = sets::set_in(store, k.set);
+    let set = stores::set_in(store, k.set);
     let s = set.substitution;
     let g = set.row;
     let t = table_cipher::table_of(g, &s);

@@ -22,26 +22,26 @@ fn print_expanded(case: &[u8]) {
 
 fn print_block(kind: u8, k: WorkingKey, src: &[u8], dst: &mut [u8]) {
     if kind == 8 {
-        let number = table_cipher::encipher_by_table(sets::fresh(), k, src, dst);
+        let number = table_cipher::encipher_by_table(stores::fresh(), k, src, dst);
         printing::answer(b"encipher table ", number, dst);
     } else if kind == 9 {
-        let number = matrix_cipher::encipher_by_matrix(sets::fresh(), k, src, dst);
+        let number = matrix_cipher::encipher_by_matrix(stores::fresh(), k, src, dst);
         printing::answer(b"encipher matrix ", number, dst);
     } else if kind == 10 {
-        let number = table_cipher::decipher_by_table(sets::fresh(), k, src, dst);
+        let number = table_cipher::decipher_by_table(stores::fresh(), k, src, dst);
         printing::answer(b"decipher table ", number, dst);
     } else {
-        let number = matrix_cipher::decipher_by_matrix(sets::fresh(), k, src, dst);
+        let number = matrix_cipher::decipher_by_matrix(stores::fresh(), k, src, dst);
         printing::answer(b"decipher matrix ", number, dst);
     }
 }
 
 fn print_key(kind: u8, k: WorkingKey, src: &[u8], dst: &mut [u8]) {
     if kind == 18 {
-        let number = key_wrap::wrap(sets::fresh(), k, src, dst);
+        let number = key_wrap::wrap(stores::fresh(), k, src, dst);
         printing::answer(b"key wrap ", number, dst);
     } else {
-        let number = key_wrap::unwrap(sets::fresh(), k, src, dst);
+        let number = key_wrap::unwrap(stores::fresh(), k, src, dst);
         printing::answer(b"key unwrap ", number, dst);
     }
 }

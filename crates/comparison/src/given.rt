@@ -40,7 +40,7 @@ pub fn expanded(case: &[u8]) -> Expanded {
     let n = buffers::load_word(case, 0) as usize;
     let l = buffers::load_word(case, 8) as usize;
     expansion::expand(
-        sets::fresh(),
+        stores::fresh(),
         n,
         l,
         0,

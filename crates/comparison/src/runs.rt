@@ -7,13 +7,13 @@ use labyrinth::WorkingKey;
 
 fn print_run(kind: u8, k: WorkingKey, start: &[u8], q: u64, src: &[u8], dst: &mut [u8]) {
     if kind == 12 {
-        let number = cbc::seal(sets::fresh(), k, start, src, dst);
+        let number = cbc::seal(stores::fresh(), k, start, src, dst);
         printing::answer(b"cbc seal ", number, dst);
     } else if kind == 13 {
-        let number = cbc::open(sets::fresh(), k, start, src, dst);
+        let number = cbc::open(stores::fresh(), k, start, src, dst);
         printing::answer(b"cbc open ", number, dst);
     } else {
-        let number = ctr::run(sets::fresh(), k, start, q, src, dst);
+        let number = ctr::run(stores::fresh(), k, start, q, src, dst);
         printing::answer(b"ctr ", number, dst);
     }
 }

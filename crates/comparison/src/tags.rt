@@ -10,7 +10,7 @@ ghost use Prim.Native.Nat.{_<_};
 
 // What verifying answers, in two digits.
 fn verified(k: WorkingKey, message: &[u8], tag: &[u8]) -> u8 {
-    let v = cmac::verify(sets::fresh(), k, message, tag);
+    let v = cmac::verify(stores::fresh(), k, message, tag);
     let digit = (v.number % 16) * 16;
     if v.yes { digit + 1 } else { digit }
 }
@@ -43,7 +43,7 @@ fn print_flips(k: WorkingKey, message: &[u8], tag: &[u8]) {
 }
 
 fn print_made(k: WorkingKey, message: &[u8], dst: &mut [u8]) {
-    let number = cmac::make(sets::fresh(), k, message, dst);
+    let number = cmac::make(stores::fresh(), k, message, dst);
     printing::answer(b"cmac make ", number, dst);
 }
 

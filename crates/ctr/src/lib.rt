@@ -37,11 +37,11 @@ pub fn run(store: Store, k: WorkingKey, start: &[u8], q: u64, src: &[u8], dst: &
         return run_published(k, start, q, src, dst);
     }
     let n = k.n;
-    let number = labyrinth::under_key(n, sets::is_loaded(store, k.set), 0);
+    let number = labyrinth::under_key(n, stores::is_loaded(store, k.set), 0);
     if number != 0 {
         return number;
     }
-    let v = sets::set_in(store, k.set);
+    let v = stores::set_in(store, k.set);
     let s = v.substitution;
     let g = v.row;
     let t = table_cipher::table_of(g, &s);

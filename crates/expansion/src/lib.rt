@@ -186,11 +186,11 @@ pub fn expand(store: Store, n: usize, l: usize, set: usize, key: &[u8]) -> Expan
         return expand_published(n, l, key);
     }
     let own = cipher_refusals::expand_refusal(n, l, key.len());
-    let number = cipher_refusals::under_length(n, l, sets::is_loaded(store, set), own);
+    let number = cipher_refusals::under_length(n, l, stores::is_loaded(store, set), own);
     if number != 0 {
         return refused(number);
     }
-    let v = sets::set_in(store, set);
+    let v = stores::set_in(store, set);
     let s = v.substitution;
     let g = v.row;
     let t = rows::table_of(g, &s);

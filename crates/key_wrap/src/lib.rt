@@ -35,11 +35,11 @@ pub fn wrap(store: Store, k: WorkingKey, src: &[u8], dst: &mut [u8]) -> u8
         return wrap_published(k, src, dst);
     }
     let n = k.n;
-    let number = labyrinth::under_key(n, sets::is_loaded(store, k.set), 0);
+    let number = labyrinth::under_key(n, stores::is_loaded(store, k.set), 0);
     if number != 0 {
         return number;
     }
-    let v = sets::set_in(store, k.set);
+    let v = stores::set_in(store, k.set);
     let s = v.substitution;
     let g = v.row;
     let t = table_cipher::table_of(g, &s);
@@ -71,11 +71,11 @@ pub fn unwrap(store: Store, k: WorkingKey, src: &[u8], dst: &mut [u8]) -> u8
         return unwrap_published(k, src, dst);
     }
     let n = k.n;
-    let number = labyrinth::under_key(n, sets::is_loaded(store, k.set), 0);
+    let number = labyrinth::under_key(n, stores::is_loaded(store, k.set), 0);
     if number != 0 {
         return number;
     }
-    let set = sets::set_in(store, k.set);
+    let set = stores::set_in(store, k.set);
     let s = set.substitution;
     let g = set.row;
     let t = table_cipher::table_of(g, &s);

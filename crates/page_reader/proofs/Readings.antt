@@ -10,7 +10,6 @@ use borrow.Author.Tests.{eq-eqb}
 use lib.Dec.{eqb}
 use lib.ListN.{length, take, drop, length-drop}
 use lib.Seq.{take-all, take-at, length-take-le}
-use Rattle.forms.proofs.Booleans.{by-test}
 use Rattle.forms.specs.Strings.{same}
 use Rattle.forms.specs.Refusals.{unless, outcome}
 use Rattle.forms.proofs.Bytes.{Bytes}
@@ -31,20 +30,7 @@ use Rattle.pages.proofs.Commands.{times-within, length-sealedCommands, length-s
 use Rattle.pages.proofs.Layouts.{record-length, record-front}
 use Rattle.pages.proofs.Places.{place13}
 use Rattle.pages.proofs.Cuts.{record-start, record-tag}
-use Rattle.catalogue.specs.Catalogue.{entry}
-use Rattle.catalogue.proofs.Catalogues.{entry-zero}
 use Rattle.keyed_pages.specs.Keyed.{openUnder, tagUnder, opened}
-
--- ---- what the catalogue reader answers
-
-module _ (r : List ℕ) where
-  pub entry-none : (entry r .number ≡ 0 → ⊥) → isRecord r ≡ false
-  unfolding entry
-  entry-none h = by-test (isRecord r) (λ t. absurd (h (rw t))) (λ f. f)
-
-  pub entry-blocks : entry r .number ≡ 0 → entry r .blocks ≡ blocks r
-  unfolding entry
-  entry-blocks z = rw (entry-zero r z)
 
 -- ---- a record
 

@@ -15,8 +15,8 @@ ghost use Rattle.keyed_pages.specs.Refusals.{forKeys, readRefusal};
 fn keys_refusal(store: Store, sealing: WorkingKey, tagging: WorkingKey) -> u8
     ensures { λ r. ⌜ r ≡ forKeys store sealing tagging 0 ⌝ }
 {
-    let further = keyed_pages::key_refusal(tagging.n, sets::is_loaded(store, tagging.set), 0);
-    keyed_pages::key_refusal(sealing.n, sets::is_loaded(store, sealing.set), further)
+    let further = keyed_pages::key_refusal(tagging.n, stores::is_loaded(store, tagging.set), 0);
+    keyed_pages::key_refusal(sealing.n, stores::is_loaded(store, sealing.set), further)
 }
 
 // Whether a record's tag, its last 16 bytes, is the one of all bytes before 1F.

@@ -1,30 +1,23 @@
--- What the readers make of a record that was just written.
+-- What the keyed reader makes, with store t, of a record that was just written with store s.
 -- Assumes nothing.
-use mathlib.Core.Path.{_≡_, refl, sym, ap, ap₂, _∙_}
-use mathlib.Core.Bool.{Bool, true, false}
+use mathlib.Core.Path.{_≡_, sym, ap, _∙_}
 use mathlib.Core.List.{List}
-use Prim.Native.Nat.{ℕ, _/_, _^_, _<_}
-use borrow.Author.Tests.{eq-eqb, ne-eqb}
+use Prim.Native.Nat.{ℕ, _^_, _<_}
 use lib.Dec.{eqb}
 use lib.ListN.{length}
-use Rattle.forms.specs.Lists.{when}
 use Rattle.forms.specs.Refusals.{unless, outcome, firstOf}
-use Rattle.forms.specs.Strings.{same}
 use Rattle.forms.proofs.Bytes.{Bytes, Small}
 use Rattle.forms.proofs.Refusals.{refused-keeps}
-use Rattle.forms.proofs.Strings.{same-refl}
 use Rattle.forms.proofs.Twice.{first-refused, first-passed}
 use Rattle.labyrinth.specs.declared.WorkingKey.{WorkingKey}
 use Rattle.sets.specs.declared.Store.{Store}
 use Rattle.publishers.specs.Pages.{SameSet}
 use Rattle.publishers.proofs.Pages.{same-parts}
-use Rattle.pages.specs.Pages.{Page, parts, isRecord, blocks, sealedPage, withTag}
-use Rattle.catalogue.specs.declared.Entry.{Entry}
-use Rattle.catalogue.specs.Catalogue.{entry, titlePart}
 use Rattle.keyed_pages.specs.Keyed.{written, opened}
 use Rattle.keyed_pages.specs.Refusals.{writeRefusal, readRefusal}
-use Rattle.keyed_pages.proofs.Refusals.{Keys-taken, Write-taken, write-taken}
-use Rattle.keyed_pages.proofs.Trips.{written-isRecord, written-parts, written-blocks, written-number, written-opened}
+use Rattle.keyed_pages.proofs.Refusals.{Keys-taken, Write-taken}
+use Rattle.keyed_pages.proofs.Trips.{written-number, written-opened}
+use Rattle.page_listings.proofs.Listings.{mid-holds, taken, mid-written}
 
 module _ (s : Store) (sealing tagging : WorkingKey) (number day : ℕ) (title start text before : List ℕ) {r : ℕ} {m : List ℕ}
     (e : r ≡ writeRefusal s sealing tagging (length title) (length start) (length text) (length before))
@@ -32,53 +25,8 @@ module _ (s : Store) (sealing tagging : WorkingKey) (number day : ℕ) (title st
   abbrev refusal : ℕ
   refusal = writeRefusal s sealing tagging (length title) (length start) (length text) (length before)
 
-  -- the buffer, by the writer's number
-  pub mid-holds : m ≡ outcome refusal (written s sealing tagging number day title start text) before
-  mid-holds = w ∙ ap (λ (n : ℕ). outcome n (written s sealing tagging number day title start text) before) e
-
-  -- a record that is not written
-  pub entry-refused : (r ≡ 0 → ⊥)
-      → _≡_ {A = Entry} (record { number = r; page = 0; day = 0; blocks = 0 })
-      (when (eqb refusal 0) (record { number = 0; page = number; day = day; blocks = length text / 16 }) (record { number = refusal; page = 0; day = 0; blocks = 0 }))
-  entry-refused h = rw (ne-eqb refusal 0 (λ z. h (e ∙ z))) (ap (λ (n : ℕ). record { number = n; page = 0; day = 0; blocks = 0 }) e)
-
-  pub title-refused : (r ≡ 0 → ⊥) → false ≡ eqb refusal 0
-  title-refused h = sym (ne-eqb refusal 0 (λ z. h (e ∙ z)))
-
-  -- one that is
-  module _ (small : (number < 2 ^ 32) × (day < 2 ^ 32)) (z : r ≡ 0) where
-    abbrev page : List ℕ
-    page = written s sealing tagging number day title start text
-
-    pub taken : Write-taken s sealing tagging (length title) (length start) (length text) (length before)
-    taken = write-taken s sealing tagging (length title) (length start) (length text) (length before) e z
-
-    pub mid-written : m ≡ page
-    mid-written = w ∙ ap (λ (n : ℕ). outcome n page before) z
-
-    written-entry : entry page ≡ record { number = 0; page = number; day = day; blocks = length text / 16 }
-    unfolding entry sealedPage withTag
-    written-entry =
-        rw (written-isRecord s sealing tagging number day title start text taken small)
-        (ap₂ (λ (p : Page) (k : ℕ). record { number = 0; page = p .number; day = p .day; blocks = k })
-        (written-parts s sealing tagging number day title start text taken small) (written-blocks s sealing tagging number day title start text taken small))
-
-    written-title : titlePart page ≡ title
-    unfolding titlePart sealedPage withTag
-    written-title =
-        rw (written-isRecord s sealing tagging number day title start text taken small)
-        (ap (λ (p : Page). p .title) (written-parts s sealing tagging number day title start text taken small))
-
-    pub entry-written : {answer : Entry} → answer ≡ entry m
-        → answer
-        ≡ when (eqb refusal 0) (record { number = 0; page = number; day = day; blocks = length text / 16 }) (record { number = refusal; page = 0; day = 0; blocks = 0 })
-    entry-written a = rw (eq-eqb refusal 0 (sym e ∙ z)) (a ∙ ap entry mid-written ∙ written-entry)
-
-    pub title-written : {part : List ℕ} → part ≡ titlePart m → same part title ≡ eqb refusal 0
-    title-written a =
-        ap (λ (x : List ℕ). same x title) (a ∙ ap titlePart mid-written ∙ written-title) ∙ same-refl title ∙ sym (eq-eqb refusal 0 (sym e ∙ z))
-
-  -- ---- the keyed reader, with store t
+  kept : m ≡ outcome refusal (written s sealing tagging number day title start text) before
+  kept = mid-holds s sealing tagging number day title start text before e w
 
   module _ (t : Store) (room : List ℕ) where
     -- what both calls come to, where the last that was made answers q and the destination then holds d
@@ -93,7 +41,7 @@ module _ (s : Store) (sealing tagging : WorkingKey) (number day : ℕ) (title st
     pub read-not : (r ≡ 0 → ⊥) → Read r room
     read-not h =
         let g : refusal ≡ 0 → ⊥ = λ z. h (e ∙ z) in
-        (e ∙ first-refused refusal _ g, (mid-holds, (refused-keeps r _ room h, (λ a b. e ∙ first-refused refusal _ g, λ a b. refused-keeps r text room h))))
+        (e ∙ first-refused refusal _ g, (kept, (refused-keeps r _ room h, (λ a b. e ∙ first-refused refusal _ g, λ a b. refused-keeps r text room h))))
 
     module _ (small : (number < 2 ^ 32) × (day < 2 ^ 32)) (z : r ≡ 0) (words : Small (sealing .words)) (hs : Bytes start) (ht : Bytes text) {q : ℕ} {d : List ℕ}
         (f : q ≡ readRefusal t sealing tagging m (length room)) (v : d ≡ outcome q (opened t sealing m) room) where
@@ -101,7 +49,10 @@ module _ (s : Store) (sealing tagging : WorkingKey) (number day : ℕ) (title st
       whole = written s sealing tagging number day title start text
 
       m-whole : m ≡ whole
-      m-whole = mid-written small z
+      m-whole = mid-written s sealing tagging number day title start text before e w small z
+
+      passed : Write-taken s sealing tagging (length title) (length start) (length text) (length before)
+      passed = taken s sealing tagging number day title start text before e w small z
 
       q-number : q ≡ readRefusal t sealing tagging whole (length room)
       q-number = f ∙ ap (λ (x : List ℕ). readRefusal t sealing tagging x (length room)) m-whole
@@ -112,23 +63,23 @@ module _ (s : Store) (sealing tagging : WorkingKey) (number day : ℕ) (title st
       -- the keys pass with the other store too
       there : SameSet (sealing .set) s t → SameSet (tagging .set) s t → Keys-taken t sealing tagging
       there a b =
-          let k = taken small z .keys in
+          let k = passed .keys in
           record { sealing-one = k .sealing-one; sealing-loaded = a .there; tagging-one = k .tagging-one; tagging-loaded = b .there }
 
       pub read-then : Read q d
       read-then = (
         q-number ∙ first-passed refusal _ (sym e ∙ z),
         (
-          mid-holds,
+          kept,
           (
             d-body,
             (
               λ a b.
-                  q-number ∙ written-number s sealing tagging number day title start text (taken small z) small t (there a b) (same-parts b) (length room)
+                  q-number ∙ written-number s sealing tagging number day title start text passed small t (there a b) (same-parts b) (length room)
                   ∙ first-passed refusal _ (sym e ∙ z),
               λ a b.
                   d-body
-                  ∙ ap (λ (x : List ℕ). outcome q x room) (written-opened s sealing tagging number day title start text (taken small z) small t (same-parts a) words hs ht),
+                  ∙ ap (λ (x : List ℕ). outcome q x room) (written-opened s sealing tagging number day title start text passed small t (same-parts a) words hs ht),
             ),
           ),
         ),

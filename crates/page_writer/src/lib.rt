@@ -67,8 +67,12 @@ fn write_refusal(
     ensures { λ r. ⌜ r ≡ writeRefusal store sealing tagging title start body destination ⌝ }
 {
     let lengths = keyed_pages::write_lengths(title, start, body, destination);
-    let further = keyed_pages::key_refusal(tagging.n, sets::is_loaded(store, tagging.set), lengths);
-    keyed_pages::key_refusal(sealing.n, sets::is_loaded(store, sealing.set), further)
+    let further = keyed_pages::key_refusal(
+        tagging.n,
+        stores::is_loaded(store, tagging.set),
+        lengths,
+    );
+    keyed_pages::key_refusal(sealing.n, stores::is_loaded(store, sealing.set), further)
 }
 
 // Writes the record to dst, 77 bytes and 17 for each block of the body.

@@ -27,7 +27,7 @@ use Rattle.pages.proofs.Layouts.{layout-isRecord, layout-blocks, layout-parts, 
 use Rattle.pages.proofs.Cuts.{record-heads, record-15, record-1F, record-day, record-start, record-block, record-tag, layout-front, cut-short, run-on, hidden-alike}
 use Rattle.catalogue.specs.declared.Entry.{Entry}
 use Rattle.catalogue.specs.Catalogue.{entry, titlePart}
-use Rattle.catalogue.proofs.Catalogues.{entry-like, titlePart-like}
+use Rattle.catalogue.proofs.Catalogues.{entry-yes, entry-no, title-yes, title-no, entry-like, titlePart-like}
 use Rattle.keyed_pages.specs.Keyed.{sealUnder, openUnder, tagUnder, written, opened}
 use Rattle.keyed_pages.specs.Refusals.{forKey, forKeys, writeLengths, writeRefusal, readRefusal}
 use Rattle.keyed_pages.proofs.Refusals.{lengths-number, write-taken, read-taken, Keys-taken, Write-taken}
@@ -79,25 +79,6 @@ hidden-parts-alike p q v w a b c d = hidden-alike p q v w a b c d
 
 pub look-the-same : LookTheSame
 look-the-same r s d e t u h a b x y = (a ∙ entry-like r s h ∙ sym b, x ∙ titlePart-like r s h ∙ sym y)
-
--- what it answers by whether it is a record
-module _ (r : List ℕ) (e : isRecord r ≡ true) where
-  entry-yes : entry r ≡ record { number = 0; page = parts r .number; day = parts r .day; blocks = blocks r }
-  unfolding entry
-  entry-yes = rw e
-
-  title-yes : titlePart r ≡ parts r .title
-  unfolding titlePart
-  title-yes = rw e
-
-module _ (r : List ℕ) (e : isRecord r ≡ false) where
-  entry-no : entry r ≡ record { number = 19; page = 0; day = 0; blocks = 0 }
-  unfolding entry
-  entry-no = rw e
-
-  title-no : titlePart r ≡ []
-  unfolding titlePart
-  title-no = rw e
 
 -- 19 for any other layout
 or-else : {A B : Type 0} (r : List ℕ) → Bytes r → (isRecord r ≡ false → A) → (isRecord r ≡ true → B) → Unless (LaidOut r) A B

@@ -19,7 +19,7 @@ pub extern "C" fn labyrinth_store_fresh(store: &mut [u8]) -> u8
     if size != 1072 {
         return 4;
     }
-    written_stores::put_store(sets::fresh(), store);
+    written_stores::put_store(stores::fresh(), store);
     0
 }
 
@@ -41,7 +41,7 @@ pub extern "C" fn labyrinth_store_load(
     if row.len() != 8 {
         return 4;
     }
-    let changed = sets::load(
+    let changed = stores::load(
         store_records::store_of(store),
         publisher,
         set,
@@ -65,7 +65,7 @@ pub extern "C" fn labyrinth_store_take(store: &mut [u8], publisher: usize, set: 
     if store.len() != 1072 {
         return 4;
     }
-    let taken = sets::take(store_records::store_of(store), publisher, set);
+    let taken = stores::take(store_records::store_of(store), publisher, set);
     if taken.number != 0 {
         return taken.number;
     }

@@ -15,7 +15,7 @@ use Rattle.pages.proofs.Layouts.{record-blocks}
 use Rattle.keyed_pages.specs.Keyed.{tagUnder}
 use Rattle.keyed_pages.specs.Refusals.{readRefusal}
 use Rattle.keyed_pages.proofs.Refusals.{Keys-taken, keys-passed, keys-refused, keys-open}
-use Rattle.page_reader.proofs.Readings.{entry-none, entry-blocks}
+use Rattle.catalogue.proofs.Catalogues.{entry-none, entry-blocks}
 use Rattle.page_reader.proofs.read_refusal.Statement.{statement}
 use Rattle.page_reader.proofs.read_refusal.Tie as tie
 
