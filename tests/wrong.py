@@ -44,6 +44,7 @@ import archivists_rows
 import archivists_sets
 import labyrinth
 import modes
+import page_records
 import papers
 
 LIMIT = 20  # seconds of the processor for a program to answer all its cases; the unedited ones take less than two
@@ -270,14 +271,19 @@ def shared(made, place):
     return out
 
 
-INNER = "word_bytes buffers strings numbers mixing rows eight_tables stores sets labyrinth tape_rules conversions cbc_trips ctr_trips tag_trips wrapped_trips".split()  # what tests/wrong/inner.txt calls
+INNER = os.path.join(HERE, "wrong", "inner.txt")
+
+
+def crates_called(path):
+    with open(path) as file:
+        return tuple(sorted(set(re.findall(r"\b(\w+)::", file.read()))))
 
 
 def inner(sources, place):
     os.mkdir(os.path.join(place, "inner"))
     root = os.path.join(place, "inner", "lib.rt")
-    shutil.copyfile(os.path.join(HERE, "wrong", "inner.txt"), root)
-    return shared(archive("inner", root, reached(tuple(INNER)), sources, os.path.join(place, "inner.a")), place)
+    shutil.copyfile(INNER, root)
+    return shared(archive("inner", root, reached(crates_called(INNER)), sources, os.path.join(place, "inner.a")), place)
 
 
 # ---- running
@@ -603,6 +609,43 @@ def inner_cases():
         for h in ROWS:
             number = papers.mixing(g) or papers.mixing(h)
             yield "word_converted", U8, [g, h, word, place_for(8)], (number, words([0 if number else archivists_rows.mixed(h, word)]))
+    yield from page_cases(text, given_sets)
+
+
+def page_cases(text, given_sets):
+    """Page records: the part that the catalogue reader gives for the title; and a record written, then listed, or opened with another store."""
+    rules = page_records.Records()
+    whole = rules.layout(page_records.Page(1, 2, text[:32], text[32:48], text[48:80], text[80:96]))
+    for record in (whole, whole[:60] + whole[-17:], whole[:-1], whole + b"\0", whole[:10] + whole[11:], b"\x11" + whole[1:], whole[:60], b""):
+        page = rules.parts(record)
+        title = b"" if page is None else page.title
+        yield "title_of", U64, [record, out(b"\x5a" * 40)], (len(title), title.ljust(40, b"\x5a"))
+    # lengths of title, start block, body, record and opened body; n and set of the sealing key and of the tag key; set 1 of the two stores, the last not loaded
+    lengths = [(32, 16, 0, 77, 0), (32, 16, 48, 128, 48), (31, 16, 48, 128, 48), (32, 17, 48, 128, 48), (32, 16, 47, 111, 32), (32, 16, 48, 127, 48), (32, 16, 48, 128, 64)]
+    keys = [((1, 0), (1, 0)), ((1, 0), (1, 1)), ((1, 1), (1, 0)), ((1, 1), (1, 1)), ((2, 0), (1, 1)), ((1, 0), (4, 0)), ((3, 1), (1, 0)), ((1, 1), (0, 0))]
+    for length, pair, (here, there) in itertools.product(lengths, keys, ((0, 0), (2, 2), (1, 2), (0, 3), (3, 0))):
+        *handed, middle, end = length
+        given = [0x01020304, 0xFFFEFDFC, *(text[40 * at :][:size] for at, size in enumerate(handed))]
+
+        def tables(at):
+            return [archivists_sets.PUBLISHED if i == 0 else given_sets[at] if at < 3 else None for _, i in pair]
+
+        def checked(at):
+            return [(n, known is not None) for (n, _), known in zip(pair, tables(at))]
+
+        def ciphers(at):
+            return [page_records.Cipher(known, words([w] * 8)) for known, w in zip(tables(at), (0x0123456789ABCDEF, 0xFEDCBA9876543210))]
+
+        number = papers.page_writing(*checked(here), *handed, middle)
+        record = b"\x5a" * middle if number else rules.written(*ciphers(here), *given)
+        entry = (number, 0, 0, 0) if number else rules.catalogue(record)[:4]
+        front, mid = [*itertools.chain(*pair), *given], out(b"\x5a" * middle)
+        yield "page_catalogued", None, [*given_sets[here], *front, mid, out(b"\xa5" * 32, 8)], (record, words(entry))
+        yield "page_titled", U8, [*given_sets[here], *front, mid], (int(number == 0), record)
+        page = rules.parts(record)
+        number = number or papers.page_reading(*checked(there), len(page.sealed) // 16, lambda: rules.right(*ciphers(there), page), end)
+        opened = b"\xa5" * end if number else rules.opened(*ciphers(there), page)
+        yield "page_opened", U8, [*given_sets[here], *given_sets[there], *front, mid, out(b"\xa5" * end)], (number, record, opened)
 
 
 def shown_by_calls(maker, path):
@@ -651,7 +694,7 @@ PROGRAMS = {
     "stores": (LIBRARIES[:-1], lines_program, functools.partial(shown_by_requests, "stores"), functools.partial(requested, "stores")),
     "pages": (LIBRARIES[-1:], lines_program, functools.partial(shown_by_requests, "pages"), functools.partial(requested, "pages")),
     "lines": (LIBRARIES[:-1], lines_program, shown_by_lines, asked),
-    "inner": (tuple(INNER), inner, functools.partial(shown_by_calls, "inner"), lambda: None),
+    "inner": (crates_called(INNER), inner, functools.partial(shown_by_calls, "inner"), lambda: None),
     "records": (LIBRARIES, records_program, shown_by_records, lambda: None),
 }
 
