@@ -15,7 +15,7 @@ all their cases first:
     pages         tests/pages.py's, through the C interface: page records
     lines         tests/compare_c.py's, with one seed, through the C interface: long runs and damaged calls
     inner         tests/wrong/inner.txt, functions called by themselves, by what their definitions say, worked out here
-    records       tests/c_interface, stores and working keys through the C interface: numbers by the papers, bytes by round trips and by the other functions
+    records       tests/c_interface, stores, working keys and page records through the C interface: numbers by the papers, bytes by round trips and by the other functions
 
 A program that is ended by a signal or does not end answers otherwise. An edit of a definition or a contract has no program, and is listed as such. Exit
 status 1 if an edit is shown by no case and is no exception below, or is one and is shown, or is not there."""
