@@ -115,7 +115,7 @@ if not listed or not altered_listed:
 records = page_records.Records()
 record = records.written(sealing, tagging, int(number), int(day), title.encode(), start, body)
 altered = record[:11] + other_title.encode() + record[43:]
-right = written == record and int(blocks) == len(body) // 16 and said["opened"] == body.decode() and others == [number, day, blocks]
+right = written == record and int(blocks) == len(body) // 16 and said["opened"] + "\n" == body.decode() and others == [number, day, blocks]
 right = right and sum(a != b for a, b in zip(record, altered)) == 1 and not records.right(sealing, tagging, records.parts(altered))
 sys.exit(not right or said["altered opened"] != "refused with 20, nothing written")
 END
@@ -145,9 +145,9 @@ cat >"$work/spoil.c" <<'END'
     uint8_t __wrap_##name parameters; \
     uint8_t __wrap_##name parameters \
     { \
-        uint8_t number = __real_##name arguments; \
+        uint8_t returned = __real_##name arguments; \
         if (strcmp(getenv("SPOILS"), #name) == 0) (made)[0] = (uint8_t)atoi(getenv("WITH")); \
-        return strcmp(getenv("REFUSES"), #name) == 0 ? 5 : number; \
+        return strcmp(getenv("REFUSES"), #name) == 0 ? 5 : returned; \
     }
 #define KEY size_t l, const uint8_t *key, size_t key_len
 #define FRONT size_t n, KEY, const uint8_t *start, size_t start_len

@@ -1,6 +1,8 @@
 -- The two checks in their order, then the blocks.
 -- Assumes nothing.
 use mathlib.Core.Path.{refl}
+use Prim.Native.Nat.{_*_, _/_}
+use lib.ListN.{length}
 use borrow.Author.Needs.{needs}
 use borrow.Author.Tests.{eq-eqb, ne-eqb}
 use Rattle.page_blocks.proofs.gather.Statement.{statement}
@@ -13,7 +15,9 @@ mul-if2 : tie.Need-mul-if2
 mul-if2 c = search needs
 
 returns-2 : tie.Need-returns-2
-returns-2 c = (rw (eq-eqb _ 0 (c .before .if1 .left), ne-eqb _ _ (c .if2 .taken)), refl)
+returns-2 c =
+    let a = c .before .before .before .before .args in
+    (rw (eq-eqb _ 0 (c .before .if1 .left), ne-eqb (length (a .d .now)) (16 * (length (a .commands .now) / 17)) (c .if2 .taken)), refl)
 
 gather-blocks-requires : tie.Need-gather-blocks-requires
 gather-blocks-requires c κs = search needs

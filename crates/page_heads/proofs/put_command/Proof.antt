@@ -1,6 +1,8 @@
 -- Any other length, and the command's own.
 -- Assumes nothing.
 use mathlib.Core.Path.{refl}
+use Prim.Native.Nat.{_+_}
+use lib.ListN.{length}
 use borrow.Author.Needs.{needs}
 use borrow.Author.Tests.{eq-eqb, ne-eqb}
 use Rattle.page_heads.proofs.put_command.Statement.{statement}
@@ -10,7 +12,9 @@ add-if1 : tie.Need-add-if1
 add-if1 c = search needs
 
 returns : tie.Need-returns
-returns c = (rw (ne-eqb _ _ (c .if1 .taken)), refl)
+returns c =
+    let a = c .before .before .before .args in
+    (rw (ne-eqb (length (a .d .now)) (1 + length (a .operand .now)) (c .if1 .taken)), refl)
 
 lay-command-requires : tie.Need-lay-command-requires
 lay-command-requires c κs = search needs
