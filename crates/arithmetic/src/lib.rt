@@ -1,4 +1,5 @@
 // Words of 64 bits and the product in the field GF(2^8). The definitions are the crate field's.
+#![tactic(auto)]
 
 ghost use Rattle.std.specs.Prelude.{◌≡◌, ◌%◌};
 ghost use Rattle.forms.specs.Words.{rotl, each_byte};

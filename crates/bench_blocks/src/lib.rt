@@ -1,6 +1,8 @@
 // What the benchmark (bench/bench.c) times: many blocks, each by itself, with what the block map needs prepared once; runs; tags; wrapped keys, and
 // beside them as many blocks; and the merged table of a row.
 // It only states what makes it safe: the contracts of the cipher and the runs say what the bytes become.
+#![tactic(auto)]
+
 ghost use Rattle.std.specs.Prelude.{◌≡◌, length};
 ghost use Rattle.labyrinth.specs.Working.{Size};
 

@@ -1,5 +1,7 @@
 // Words in a buffer of bytes, the least byte first. A caller that is inside the buffer pays nothing for the
 // test: the compiler sees that it holds.
+#![tactic(auto)]
+
 ghost use Rattle.std.specs.Prelude.{◌≡◌, ◌++◌, ◌+◌, ◌≤◌, ◌<◌, length, get_or, take, drop};
 ghost use Rattle.forms.specs.Lists.{tabulate};
 ghost use Rattle.forms.specs.Words.{byte, join};

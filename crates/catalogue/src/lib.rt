@@ -1,4 +1,6 @@
 // A page record as the catalogue reads it, with no key. The definitions are those of crates/pages and specs/Catalogue.antt.
+#![tactic(auto)]
+
 ghost use Rattle.std.specs.Prelude.{◌≡◌, ◌+◌, ◌*◌, ◌<◌, ◌≤◌, length, drop};
 ghost use Rattle.pages.specs.Pages.{begins, four_byte_number, times15, headed, ended};
 ghost use Rattle.catalogue.specs.Catalogue.{entry, title_part};

@@ -1,6 +1,8 @@
 // Cipher block chaining (NIST SP 800-38A, section 6.2): sealing and opening a run of whole blocks under a working key.
 //
 // What the block map needs is prepared once for a run, and lent to it (crates/cbc_lent).
+#![tactic(auto)]
+
 ghost use Rattle.std.specs.Prelude.{◌≡◌, ◌*◌, length};
 ghost use Rattle.forms.specs.Refusals.{outcome};
 ghost use Rattle.labyrinth.specs.Cipher.{article};

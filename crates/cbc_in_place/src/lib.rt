@@ -2,6 +2,8 @@
 //
 // An opened block is written over its sealed one, which the next block needs. So a stretch of at most 8,192 bytes is copied, and opened from
 // the copy to its place; the copy's last block is what the next stretch is opened after.
+#![tactic(auto)]
+
 ghost use Rattle.std.specs.Prelude.{◌≡◌, ◌-◌, ◌*◌, ◌%◌, ◌<◌, ◌≤◌, min, length, drop};
 ghost use Rattle.forms.specs.Refusals.{outcome};
 ghost use Rattle.labyrinth.specs.Cipher.{article};

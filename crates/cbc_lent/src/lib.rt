@@ -2,6 +2,8 @@
 //
 // What the block map needs is prepared once for a run, and lent to every block. Each inner function is stated over the block map m that
 // it gives.
+#![tactic(auto)]
+
 ghost use Rattle.std.specs.Prelude.{◌≡◌, List, ℕ, ◌*◌, ◌%◌, length};
 ghost use Rattle.forms.specs.Refusals.{outcome};
 ghost use Rattle.labyrinth.specs.Working.{Size};

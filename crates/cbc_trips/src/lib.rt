@@ -1,4 +1,6 @@
 // A run in CBC mode sealed and opened again by the operations themselves: for all arguments the source comes back, or the first refusal.
+#![tactic(auto)]
+
 ghost use Rattle.std.specs.Prelude.{◌≡◌, ◌*◌, length};
 ghost use Rattle.forms.specs.Refusals.{outcome, first_of};
 ghost use Rattle.labyrinth.specs.Keys.{E, U};

@@ -1,4 +1,6 @@
 // The block map at every block of a string XOR what the block before it became: what a run calls whose blocks hang on each other.
+#![tactic(auto)]
+
 ghost use Rattle.std.specs.Prelude.{◌≡◌, true, ◌*◌, ◌/◌, ◌%◌, length};
 ghost use Rattle.forms.specs.Lists.{when};
 ghost use Rattle.forms.specs.Refusals.{outcome};

@@ -1,4 +1,6 @@
 // The refusals of a block and of an expansion. The definitions are the crate labyrinth's.
+#![tactic(auto)]
+
 ghost use Rattle.std.specs.Prelude.{◌≡◌};
 ghost use Rattle.labyrinth.specs.Refusals.{legal_length, block_refusal, expand_refusal, under_length};
 

@@ -1,6 +1,8 @@
 // CMAC (NIST SP 800-38B) over the cipher's block operation at n = 1: a message's tag made, and a given tag verified.
 //
 // What the block map needs is prepared once for a message, and lent to it (crates/cmac_lent).
+#![tactic(auto)]
+
 ghost use Rattle.std.specs.Prelude.{◌≡◌, false, length};
 ghost use Rattle.forms.specs.Refusals.{outcome};
 ghost use Rattle.labyrinth.specs.Cipher.{article};

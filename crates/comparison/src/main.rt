@@ -1,6 +1,8 @@
 // Prints what the library answers to the cases on standard input, a line each. A case is its kind, the length of the rest in 2 bytes, lowest
 // first, and the rest, of at most 2,048 bytes. The modules say what the kinds are: 0 to 2 `field`, 3 to 6 `row`, 7 to 11 `blocks`, 12 to 14
 // `runs`, 15 and 16 `tags`, 17 `steps`, 18 and 19 `blocks` again.
+#![tactic(auto)]
+
 mod blocks;
 mod field;
 mod given;

@@ -1,4 +1,6 @@
 // A word converted from one row to another by the operations themselves: for all arguments it is the one mixed by the other row, or the first refusal.
+#![tactic(auto)]
+
 ghost use Rattle.std.specs.Prelude.{◌≡◌};
 ghost use Rattle.forms.specs.Refusals.{first_of};
 ghost use Rattle.rows.specs.Rows.{row_refusal, mixed};

@@ -1,4 +1,6 @@
 // How many bytes of a word are not zero.
+#![tactic(auto)]
+
 ghost use Rattle.std.specs.Prelude.{◌≡◌};
 ghost use Rattle.judge.specs.Judge.{active_bytes};
 

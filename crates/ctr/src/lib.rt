@@ -1,6 +1,8 @@
 // Counter mode over the cipher's block operation. Sealing and opening are the same.
 //
 // What the block map needs is prepared once for a run, and lent to it (crates/ctr_lent).
+#![tactic(auto)]
+
 ghost use Rattle.std.specs.Prelude.{◌≡◌, ◌*◌, length, set};
 ghost use Rattle.forms.specs.Refusals.{outcome};
 ghost use Rattle.forms.specs.Strings.{number};

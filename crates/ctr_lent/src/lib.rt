@@ -2,6 +2,8 @@
 //
 // What the block map needs is prepared once for a run, and lent to every block. Each inner function is stated over the block map m that
 // it gives.
+#![tactic(auto)]
+
 ghost use Rattle.std.specs.Prelude.{◌≡◌, ℕ, ◌+◌, ◌-◌, ◌*◌, ◌/◌, ◌%◌, ◌<◌, ◌≤◌, List, length, set};
 ghost use Rattle.forms.specs.Refusals.{outcome};
 ghost use Rattle.forms.specs.Strings.{xor_bytes, number, string};

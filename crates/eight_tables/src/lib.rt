@@ -1,4 +1,6 @@
 // A merged table as eight tables: what a long run is lent, so that no word is rotated at each look-up.
+#![tactic(auto)]
+
 ghost use Rattle.std.specs.Prelude.{◌≡◌, ◌&&◌, ℕ, ◌*◌, ◌/◌, ◌%◌, ◌^◌, ◌<◌, eqb, get_or, length, replicate};
 ghost use Rattle.forms.specs.Lists.{tabulate, when};
 ghost use Rattle.forms.specs.Words.{rotl};

@@ -2,6 +2,8 @@
 // schedule's own iterations.
 //
 // The words grow in one array of 32 that starts as zeros, so the unused words are zero at the end.
+#![tactic(auto)]
+
 ghost use Rattle.std.specs.Prelude.{◌≡◌, ℕ, ◌+◌, ◌-◌, ◌*◌, ◌<◌, ◌≤◌, List, [], ◌++◌, length, take, slice_index};
 ghost use Rattle.forms.specs.Lists.{tabulate, xor_sum};
 ghost use Rattle.forms.specs.Words.{words};

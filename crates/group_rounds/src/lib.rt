@@ -2,6 +2,8 @@
 //
 // Each n has a text of its own with its words spelled out: with n as an argument the compiler keeps the words in memory, which took up
 // to four times as long.
+#![tactic(auto)]
+
 ghost use Rattle.std.specs.Prelude.{◌≡◌, ◌+◌, ◌*◌, ◌/◌, ◌%◌, ◌<◌, ◌≤◌, true, [], ◌∷◌, length, bit_xor, slice_index};
 ghost use Rattle.forms.specs.Lists.{tabulate, xor_sum, words_from};
 ghost use Rattle.forms.specs.Words.{byte};

@@ -1,6 +1,8 @@
 // The two ends of the cipher for a group of blocks side by side: IT of eight words, and FT to them, by substitutions that are spaced out.
 //
 // The words are keyed in a text for each n: with n as an argument the compiler would make a function of its own, called for every group.
+#![tactic(auto)]
+
 ghost use Rattle.std.specs.Prelude.{◌≡◌, ◌+◌, ◌-◌, ◌*◌, ◌/◌, ◌%◌, ◌<◌, ◌≤◌, slice_index};
 ghost use Rattle.forms.specs.Lists.{tabulate};
 ghost use Rattle.forms.specs.Words.{rotl};

@@ -1,5 +1,7 @@
 // Blocks mapped 64 bytes at a time: a group of them is worked side by side, four at n = 1, two at n = 2, one at n = 4. What that wants, a
 // merged table as eight and both substitutions spaced out, is made here, once for a string.
+#![tactic(auto)]
+
 ghost use Rattle.std.specs.Prelude.{◌≡◌, true, ◌&&◌, ◌*◌, ◌%◌, eqb, length};
 ghost use Rattle.forms.specs.Lists.{when};
 ghost use Rattle.forms.specs.Words.{words, bytes};

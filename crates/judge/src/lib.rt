@@ -3,6 +3,8 @@
 // enough exactly when no choice leaves a word but zero. The words that are left are the products of a matrix a with all words, the eight
 // unknowns: at first every word. A byte that is asked to be zero is an equation in the unknowns; one of them is worked out of it and put in
 // everywhere.
+#![tactic(auto)]
+
 ghost use Rattle.std.specs.Prelude.{◌≡◌, ℕ, ◌≤◌, ◌<◌};
 ghost use Rattle.field.specs.Mixing.{dot, mix_by};
 ghost use Rattle.judge.specs.Judge.{Judged};

@@ -2,6 +2,8 @@
 // each row a line: the row, and 'yes' if every word that isn't zero has nine or more non-zero bytes before and after mixing together; else
 // 'no', a word that has fewer, its highest digit first, and how many it has before, after and together. What is no row is said on standard
 // error, and nothing behind it is judged.
+#![tactic(auto)]
+
 use libc::{STDERR_FILENO, STDIN_FILENO, STDOUT_FILENO};
 
 fn print_row(g: [u8; 8]) {

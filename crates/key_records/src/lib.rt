@@ -1,4 +1,6 @@
 // A working key as bytes in a lent buffer, as C hands it over, 272 of them (crates/records): read whole and written whole.
+#![tactic(auto)]
+
 ghost use Rattle.std.specs.Prelude.{◌≡◌, ◌++◌, ◌+◌, ◌*◌, ◌≤◌, eqb, length, take, drop};
 ghost use Rattle.forms.specs.Lists.{tabulate, when};
 ghost use Rattle.forms.specs.Words.{byte, bytes};

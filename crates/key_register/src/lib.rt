@@ -1,5 +1,7 @@
 // A register of page keys, and which key replaced which (document 02, Job 10): adding a key, and looking one up. The records and definitions are
 // those of the crate registers.
+#![tactic(auto)]
+
 ghost use Rattle.std.specs.Prelude.{◌≡◌, ◌<◌, min, length, drop};
 ghost use Rattle.forms.specs.Lists.{when, any, first_from};
 ghost use Rattle.registers.specs.Registers as spec;

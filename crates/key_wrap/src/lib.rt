@@ -1,6 +1,8 @@
 // Key wrapping KW (NIST SP 800-38F) over the cipher's block operation at n = 1: a key wrapped under a working key, and unwrapped.
 //
 // What the block map needs is prepared once for a key, and lent to every block.
+#![tactic(auto)]
+
 ghost use Rattle.std.specs.Prelude.{◌≡◌, length};
 ghost use Rattle.forms.specs.Refusals.{outcome};
 ghost use Rattle.labyrinth.specs.Cipher.{article};

@@ -1,6 +1,8 @@
 // Key wrapping KW (NIST SP 800-38F) at n = 1, over what is lent: a key wrapped, and unwrapped.
 //
 // Each inner function is stated over the block map m that what is lent gives.
+#![tactic(auto)]
+
 ghost use Rattle.std.specs.Prelude.{◌≡◌, List, ℕ, ◌+◌, ◌%◌, ◌≤◌, length};
 ghost use Rattle.forms.specs.Refusals.{unless, outcome};
 ghost use Rattle.labyrinth.specs.Lent.{lent, Gives};

@@ -1,6 +1,8 @@
 // The steps of key wrapping KW (NIST SP 800-38F, section 6.1) over what is lent: W and its inverse, on A and the semiblocks behind it.
 //
 // A semiblock R_i stays in its place, and the steps go round instead. Each inner function is stated over the block map m that what is lent gives.
+#![tactic(auto)]
+
 ghost use Rattle.std.specs.Prelude.{◌≡◌, List, ◌++◌, ℕ, ◌+◌, ◌-◌, ◌/◌, ◌%◌, ◌≤◌, ◌<◌, length};
 ghost use Rattle.forms.specs.Refusals.{outcome};
 ghost use Rattle.forms.specs.Strings.{xor_bytes, string};

@@ -1,4 +1,6 @@
 // Page records under a sealing key and a tag key (document 02, Job 9): definitions (specs/) and laws (proofs/), and the checks of keys and lengths.
+#![tactic(auto)]
+
 ghost use Rattle.std.specs.Prelude.{◌≡◌, ◌/◌, ◌%◌, ◌&&◌, eqb, leb};
 ghost use Rattle.forms.specs.Refusals.{unless};
 ghost use Rattle.labyrinth.specs.Refusals.{under_key};

@@ -1,4 +1,5 @@
 // The records of the cipher, the exchange of the halves, whether n is legal, and the refusal of every working key. Its definitions stand in specs/, its laws in proofs/.
+#![tactic(auto)]
 
 ghost use Rattle.std.specs.Prelude.{◌≡◌};
 ghost use Rattle.labyrinth.specs.Refusals.{legal, under_key};

@@ -1,5 +1,7 @@
 // The library as C sees it: each of these functions takes a key, expands it, does one operation and keeps nothing. include/labyrinth.h declares
 // them, and those of rows, which crates/rows_c has.
+#![tactic(auto)]
+
 ghost use Rattle.std.specs.Prelude.{◌≡◌, ◌*◌, length};
 ghost use Rattle.forms.specs.Refusals.{outcome};
 ghost use Rattle.labyrinth.specs.Cipher.{article};

@@ -1,4 +1,6 @@
 // The block map at every block of a string, XOR a mask: what a run calls whose blocks do not hang on each other.
+#![tactic(auto)]
+
 ghost use Rattle.std.specs.Prelude.{◌≡◌, ◌*◌, ◌%◌, length};
 ghost use Rattle.forms.specs.Lists.{when};
 ghost use Rattle.forms.specs.Refusals.{outcome};

@@ -1,4 +1,6 @@
 // The masks of CMAC (NIST SP 800-38B, 6.1, where they are subkeys), and a message's last block under its mask (6.2).
+#![tactic(auto)]
+
 ghost use Rattle.std.specs.Prelude.{◌≡◌, take};
 ghost use Rattle.modes.specs.Cmac.{doubled, pad, last_block};
 

@@ -1,4 +1,6 @@
 // Mixing by a matrix of bytes, and the matrix of a row. The definitions are the crate field's.
+#![tactic(auto)]
+
 ghost use Rattle.std.specs.Prelude.{◌≡◌, ◌<◌};
 ghost use Rattle.forms.specs.Lists.{tabulate};
 ghost use Rattle.field.specs.Mixing as spec;

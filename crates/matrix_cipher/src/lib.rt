@@ -1,4 +1,6 @@
 // Enciphering and deciphering a block by the substitution and the matrix, under a working key. No merged table occurs here.
+#![tactic(auto)]
+
 ghost use Rattle.std.specs.Prelude.{◌≡◌, length};
 ghost use Rattle.forms.specs.Refusals.{outcome};
 ghost use Rattle.labyrinth.specs.Cipher.{article};

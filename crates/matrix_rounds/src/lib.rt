@@ -1,4 +1,6 @@
 // The sixteen rounds by the substitution and a matrix, as the definition has them: no merged table, and one text for all n.
+#![tactic(auto)]
+
 ghost use Rattle.std.specs.Prelude.{◌≡◌, ◌+◌, ◌<◌, ◌≤◌, length, take, slice_index};
 ghost use Rattle.forms.specs.Lists.{when, words_from};
 ghost use Rattle.forms.specs.Words.{each_byte};

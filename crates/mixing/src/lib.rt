@@ -1,5 +1,7 @@
 // The word operations of the layer: substitution at each byte, and substitution and mixing at once by a merged table. The definitions are
 // the crate field's.
+#![tactic(auto)]
+
 ghost use Rattle.std.specs.Prelude.{◌≡◌, ◌<◌};
 ghost use Rattle.forms.specs.Words.{each_byte};
 ghost use Rattle.field.specs.Substitution.{sub};

@@ -1,4 +1,6 @@
 // Byte strings as numbers, the first byte the highest: adding to one and doubling it.
+#![tactic(auto)]
+
 ghost use Rattle.std.specs.Prelude.{◌≡◌, ◌+◌, ◌*◌, length};
 ghost use Rattle.forms.specs.Strings.{number, string};
 

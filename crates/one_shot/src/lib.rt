@@ -1,5 +1,7 @@
 // What the functions for C say beyond the operations' own contracts (specs/OneShot.antt), with its laws (proofs/): a key expanded and used at
 // once, and a row that has a length.
+#![tactic(auto)]
+
 ghost use Rattle.std.specs.Prelude.{◌≡◌};
 ghost use Rattle.one_shot.specs.OneShot.{yes_byte};
 

@@ -1,4 +1,6 @@
 // What the tape's commands do to their operands: a word of 8 bytes is mixed, and unused bytes must be zero.
+#![tactic(auto)]
+
 ghost use Rattle.std.specs.Prelude.{◌≡◌};
 ghost use Rattle.forms.specs.Words.{words, bytes};
 ghost use Rattle.field.specs.Mixing.{mix};

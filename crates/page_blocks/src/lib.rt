@@ -1,4 +1,6 @@
 // Sealed blocks of a page record (document 02, Job 9): moved apart, so that each stands behind its command byte 15, and gathered again.
+#![tactic(auto)]
+
 ghost use Rattle.std.specs.Prelude.{◌≡◌, ◌∷◌, ◌*◌, ◌/◌, ◌%◌, eqb, length, drop};
 ghost use Rattle.forms.specs.Refusals.{unless, outcome};
 ghost use Rattle.pages.specs.Pages.{sealed_commands, sealed_operands};

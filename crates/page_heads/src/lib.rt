@@ -1,4 +1,6 @@
 // Commands of a page record (document 02, Job 9) put into a buffer: one with its operand, and the four before the sealed blocks.
+#![tactic(auto)]
+
 ghost use Rattle.std.specs.Prelude.{◌≡◌, ◌++◌, ◌+◌, eqb, length};
 ghost use Rattle.forms.specs.Refusals.{unless, outcome};
 ghost use Rattle.pages.specs.Pages.{command, four_bytes};

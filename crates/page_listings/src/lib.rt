@@ -1,5 +1,7 @@
 // A page record written and catalogued by the operations themselves, for all arguments: the catalogue reader gets number, day, block count and title, or the writer's refusal
 // stands.
+#![tactic(auto)]
+
 ghost use Rattle.std.specs.Prelude.{◌≡◌, ◌/◌, eqb, length};
 ghost use Rattle.forms.specs.Lists.{when};
 ghost use Rattle.forms.specs.Refusals.{outcome};

@@ -1,4 +1,6 @@
 // The keyed reader of page records (document 02, Job 9): keys, layout, tag and destination are checked in this order, and only then is the body opened.
+#![tactic(auto)]
+
 ghost use Rattle.std.specs.Prelude.{◌≡◌, true, ◌*◌, length};
 ghost use Rattle.forms.specs.Refusals.{outcome};
 ghost use Rattle.sets.specs.Sets.{loaded};

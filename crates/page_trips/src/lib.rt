@@ -1,4 +1,6 @@
 // A page record written and read again by the operations themselves, for all arguments: the keyed reader gets the body, or the first refusal stands.
+#![tactic(auto)]
+
 ghost use Rattle.std.specs.Prelude.{◌≡◌, eqb, length};
 ghost use Rattle.forms.specs.Refusals.{unless, outcome, first_of};
 ghost use Rattle.publishers.specs.Pages.{SameSet};

@@ -1,4 +1,6 @@
 // The writer of page records (document 02, Job 9): a record of number, day, title, start block and body, sealed and tagged.
+#![tactic(auto)]
+
 ghost use Rattle.std.specs.Prelude.{◌≡◌, true, ◌+◌, ◌*◌, ◌/◌, ◌%◌, length};
 ghost use Rattle.forms.specs.Refusals.{outcome};
 ghost use Rattle.sets.specs.Sets.{loaded};

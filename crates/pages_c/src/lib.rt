@@ -1,5 +1,7 @@
 // The library as C sees it: page records written, catalogued and opened. A store and two working keys are bytes that the caller lends
 // (crates/records). include/labyrinth.h declares these functions.
+#![tactic(auto)]
+
 ghost use Rattle.std.specs.Prelude.{◌≡◌, length};
 ghost use Rattle.forms.specs.Refusals.{outcome};
 ghost use Rattle.records.specs.Records.{key_in, store_in};

@@ -3,6 +3,8 @@
 //
 // A `const` array is stored anew wherever it is named, so the outermost function of an operation
 // calls for the tables it needs once, and lends them down.
+#![tactic(auto)]
+
 mod inverse;
 mod table1;
 

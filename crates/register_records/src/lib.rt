@@ -1,5 +1,7 @@
 // A register of page keys as bytes in a lent buffer, as C hands it over (crates/register_layout): read whole, and one more entry put behind those that it
 // holds; an entry written to a buffer of its own, 44 bytes.
+#![tactic(auto)]
+
 ghost use Rattle.std.specs.Prelude.{◌≡◌, ◌++◌, ◌+◌, ◌≤◌, ◌<◌, eqb, length, get_or, take, drop};
 ghost use Rattle.forms.specs.Lists.{when, words_from};
 ghost use Rattle.registers.specs.Registers.{extended};

@@ -1,6 +1,7 @@
 // A register of page keys, and which key replaced which (document 02, Job 10). Entries are never removed. Definitions and laws stand in specs/ and
 // proofs/; the code is in the crate key_register. A register goes by value, in and out: it is 2.8 KB, adding and looking up are rare, and so a refused
 // call hands back what it was given.
+#![tactic(auto)]
 
 // A page key: its number, the number that it replaces (0 for none), and 40 bytes of wrapped key.
 #[derive(Drop)]

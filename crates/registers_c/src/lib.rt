@@ -1,5 +1,7 @@
 // A register of page keys as C sees it: a key added, and a number looked up. The register is bytes in a buffer that the caller lends
 // (crates/register_records). include/labyrinth.h declares these functions.
+#![tactic(auto)]
+
 ghost use Rattle.std.specs.Prelude.{◌≡◌, eqb, length};
 ghost use Rattle.forms.specs.Lists.{pick};
 ghost use Rattle.forms.specs.Refusals.{outcome};

@@ -1,4 +1,6 @@
 // Mixing by a row, by the powers of x that its coefficients are made of. The definitions are the crate field's.
+#![tactic(auto)]
+
 ghost use Rattle.std.specs.Prelude.{◌≡◌, ◌*◌, ◌/◌, ◌%◌, ◌^◌, get_or};
 ghost use Rattle.forms.specs.Lists.{tabulate, xor_sum, iterate};
 ghost use Rattle.forms.specs.Words.{each_byte};

@@ -1,5 +1,7 @@
 // What takes rows of eight coefficients (document 02, Jobs 4 and 5): mixing a word, making the merged table, the product of two rows and the
 // inverse row. The field stays 12D. A row whose coefficients XOR to zero gets 13; the product takes any rows.
+#![tactic(auto)]
+
 ghost use Rattle.std.specs.Prelude.{◌≡◌, length};
 ghost use Rattle.forms.specs.Lists.{tabulate, iterate};
 ghost use Rattle.forms.specs.Words.{byte};

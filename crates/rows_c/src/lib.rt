@@ -1,4 +1,6 @@
 // The library as C sees it, in rows: two functions mix a word, two make a row, and one judges a row. include/labyrinth.h declares them.
+#![tactic(auto)]
+
 ghost use Rattle.std.specs.Prelude.{◌≡◌, length};
 ghost use Rattle.forms.specs.Refusals.{outcome};
 ghost use Rattle.field.specs.Mixing.{mix, product};

@@ -1,4 +1,6 @@
 // The refusals of the runs and of tags. Their definitions are those of modes.
+#![tactic(auto)]
+
 mod cbc;
 mod cmac;
 mod ctr;

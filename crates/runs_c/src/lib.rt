@@ -1,5 +1,7 @@
 // The library as C sees it, under a working key: CBC and CTR by the set that the key names, out of a store. Both records are bytes that the caller
 // lends (crates/records). A key that names set 0 is used without reading the store. include/labyrinth.h declares these functions.
+#![tactic(auto)]
+
 ghost use Rattle.std.specs.Prelude.{◌≡◌, length};
 ghost use Rattle.forms.specs.Refusals.{outcome};
 ghost use Rattle.modes.specs.Cbc.{cbc_seal, cbc_open};

@@ -1,5 +1,7 @@
 // The schedule: the subkeys laid out in the order of their use, twenty half-blocks: IT low and high, the
 // sixteen rounds, FT low and high. So the rest of the code is the same for both directions.
+#![tactic(auto)]
+
 ghost use Rattle.std.specs.Prelude.{◌≡◌, ◌++◌, ◌+◌, ◌≤◌, ◌<◌, length, get_or, take, drop};
 ghost use Rattle.forms.specs.Lists.{words_from};
 ghost use Rattle.labyrinth.specs.Keys.{order as roundOrder};

@@ -1,6 +1,7 @@
 // Two publishers, one store of sets (document 02, Job 7): each set is a substitution of 256 bytes and a row. Set 0 is in any store the
 // published one, whatever stands at its place. Whether another is loaded goes by what it holds, and no table is kept beside it, so a store
 // made by hand can't lie.
+#![tactic(auto)]
 
 // A substitution and a row.
 #[derive(Drop)]

@@ -1,4 +1,6 @@
 // Substitutions spaced out, so that a word is substituted by eight loads and seven XORs.
+#![tactic(auto)]
+
 ghost use Rattle.std.specs.Prelude.{◌≡◌, ℕ, ◌+◌, ◌-◌, ◌*◌, ◌^◌, ◌<◌, get_or, length, replicate};
 ghost use Rattle.forms.specs.Words.{byte, join};
 ghost use Rattle.labyrinth.specs.Groups.{spaced_sub};

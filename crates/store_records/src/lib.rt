@@ -1,4 +1,6 @@
 // A store as bytes in a lent buffer, as C hands it over, 1072 of them (crates/records): read whole. A row as bytes too.
+#![tactic(auto)]
+
 ghost use Rattle.std.specs.Prelude.{◌≡◌, ◌++◌, ◌≤◌, length, take, drop};
 ghost use Rattle.forms.specs.Lists.{words_from};
 ghost use Rattle.records.specs.Records.{set_at, store_in};

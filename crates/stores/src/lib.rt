@@ -1,4 +1,6 @@
 // The functions on stores of sets: a fresh one, what a set holds and whether it is loaded, loading and taking. What they give is defined in `sets`.
+#![tactic(auto)]
+
 ghost use Rattle.std.specs.Prelude.{◌≡◌, length};
 ghost use Rattle.sets.specs.Sets as spec;
 ghost use Rattle.sets.specs.Sets.{set_refusal, fresh_store, loaded, held, set_in};

@@ -1,5 +1,7 @@
 // The store as C sees it: a fresh one, a set loaded, a set taken, and a key expanded for a set. Records are bytes in buffers that the caller
 // lends (crates/records). include/labyrinth.h declares these functions.
+#![tactic(auto)]
+
 ghost use Rattle.std.specs.Prelude.{◌≡◌, length};
 ghost use Rattle.forms.specs.Refusals.{outcome};
 ghost use Rattle.labyrinth.specs.Refusals.{expand_refusal, under_length, expansion};

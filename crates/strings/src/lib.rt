@@ -1,4 +1,6 @@
 // Operations on byte strings that the modes are made of, for strings of any lengths, and buffers for a block of any size.
+#![tactic(auto)]
+
 ghost use Rattle.std.specs.Prelude.{◌≡◌, ◌++◌, ◌≤◌, min, length, take, drop, replicate};
 ghost use Rattle.forms.specs.Strings.{xor_bytes, same};
 

@@ -1,4 +1,6 @@
 // Whether 256 bytes are a substitution, and the inverse of one.
+#![tactic(auto)]
+
 ghost use Rattle.std.specs.Prelude.{◌≡◌, ◌<◌};
 ghost use Rattle.field.specs.Substitution.{different};
 ghost use Rattle.substitutions.specs.Inverse.{inverse_bytes};

@@ -2,6 +2,8 @@
 //
 // A run prepares `table`, `substitution`, `inverse` and `schedule`; for another set than the published one `table_of` and `inverse_of`. One block goes by `map_block`; many go by `many_blocks` or, where each hangs
 // on the one before, by `chains`, which are lent the same four. That these give E and U is a law of labyrinth's, `by_one`.
+#![tactic(auto)]
+
 ghost use Rattle.std.specs.Prelude.{◌≡◌, length};
 ghost use Rattle.field.specs.Substitution.{invert};
 ghost use Rattle.field.specs.Merged.{merged};

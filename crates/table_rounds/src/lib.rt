@@ -3,6 +3,8 @@
 //
 // Byte b of word j of the permuted half-block is byte b of word (j + b) mod n, so no bytes are moved: the merged word for
 // each byte is looked up where the byte stands.
+#![tactic(auto)]
+
 ghost use Rattle.std.specs.Prelude.{◌≡◌, ◌+◌, ◌*◌, ◌%◌, ◌<◌, ◌≤◌, ◌&&◌, ◌++◌, length, take, drop, bit_xor, slice_index};
 ghost use Rattle.forms.specs.Lists.{when, words_from};
 ghost use Rattle.forms.specs.Words.{byte, rotl};

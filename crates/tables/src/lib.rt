@@ -1,4 +1,6 @@
 // The merged words of the published substitution and row, and the substitution at a byte. The definitions are the crate field's.
+#![tactic(auto)]
+
 mod merged;
 
 ghost use Rattle.std.specs.Prelude.{◌≡◌};

@@ -1,4 +1,6 @@
 // A tag made and verified by the operations themselves: for all arguments it gets a yes, or both have the same refusal.
+#![tactic(auto)]
+
 ghost use Rattle.std.specs.Prelude.{◌≡◌, eqb, length};
 ghost use Rattle.forms.specs.Refusals.{outcome};
 ghost use Rattle.labyrinth.specs.Keys.{E};

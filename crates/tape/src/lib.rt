@@ -1,4 +1,6 @@
 // The command tape: one step, by value. The definition is crates/tape_rules/specs/Steps.antt.
+#![tactic(auto)]
+
 ghost use Rattle.std.specs.Prelude.{◌≡◌, [], ◌∷◌, ◌*◌, ◌<◌, length, get_or};
 ghost use Rattle.forms.specs.Lists.{over};
 ghost use Rattle.labyrinth.specs.Cipher.{article};

@@ -1,5 +1,7 @@
 // The tape program: works the tape on standard input and writes its answers to standard output, as raw bytes. If the input cannot be read
 // it writes nothing there and says so on standard error; if the answers cannot be written it says that.
+#![tactic(auto)]
+
 ghost use Rattle.std.specs.Prelude.{◌≡◌, ◌≤◌, length};
 
 use libc::{STDERR_FILENO, STDIN_FILENO, STDOUT_FILENO};

@@ -1,5 +1,7 @@
 // The command tape's rules: its state, what a step returns, and the definition of a step (specs/Steps.antt), which follows document 01 rule by
 // rule, with its laws (proofs/).
+#![tactic(auto)]
+
 ghost use Rattle.std.specs.Prelude.{◌≡◌};
 ghost use Rattle.tape_rules.specs.Steps as spec;
 

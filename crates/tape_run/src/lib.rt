@@ -1,4 +1,6 @@
 // A whole command tape: steps from a fresh state until the tape is ended, their answers one after another.
+#![tactic(auto)]
+
 ghost use Rattle.std.specs.Prelude.{◌≡◌, ◌<◌, length};
 ghost use Rattle.forms.specs.Lists.{over};
 ghost use Rattle.tape_rules.specs.Steps as spec;

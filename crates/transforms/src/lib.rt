@@ -1,6 +1,8 @@
 // The two ends of the cipher: the initial transformation IT, from a block's bytes, and the final
 // transformation FT, to them. The text is one for all n. The functions that dispatch on n call it
 // with 1, 2 and 4, so that the compiler makes each size by itself.
+#![tactic(auto)]
+
 ghost use Rattle.std.specs.Prelude.{◌≡◌, ◌+◌, ◌*◌, ◌<◌, ◌≤◌, ◌&&◌, [], ◌++◌, length, take, drop, ◌==◌};
 ghost use Rattle.forms.specs.Lists.{tabulate, when, words_from};
 ghost use Rattle.forms.specs.Words.{rotl, each_byte, words, bytes};

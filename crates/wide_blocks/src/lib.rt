@@ -1,5 +1,7 @@
 // One block by the wider forms of what is lent, from words to words, for runs whose blocks hang on each other: at n = 1 and 2, by the first four
 // of eight tables, since a chain of look-ups is shorter so. At n = 4 a group is one block.
+#![tactic(auto)]
+
 ghost use Rattle.std.specs.Prelude.{◌≡◌, ◌+◌, ◌%◌, ◌<◌, ◌≤◌, true, [], ◌∷◌, bit_xor, slice_index};
 ghost use Rattle.forms.specs.Lists.{xor_sum, words_from};
 ghost use Rattle.forms.specs.Words.{byte, rotl};

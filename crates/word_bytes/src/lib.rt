@@ -1,4 +1,6 @@
 // The bytes of a word.
+#![tactic(auto)]
+
 ghost use Rattle.std.specs.Prelude.{◌≡◌};
 ghost use Rattle.forms.specs.Words.{byte};
 

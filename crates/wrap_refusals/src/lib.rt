@@ -1,4 +1,5 @@
 // The refusals of wrapping and unwrapping a key. Their definitions are those of modes.
+#![tactic(auto)]
 
 ghost use Rattle.std.specs.Prelude.{◌≡◌, eqb, true};
 ghost use Rattle.forms.specs.Refusals.{unless};

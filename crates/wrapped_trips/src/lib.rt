@@ -1,5 +1,7 @@
 // A key wrapped and unwrapped again by the operations themselves, and a wrapped key unwrapped and wrapped: for all arguments the source comes back, or
 // the first refusal.
+#![tactic(auto)]
+
 ghost use Rattle.std.specs.Prelude.{◌≡◌, true, length};
 ghost use Rattle.forms.specs.Refusals.{outcome, first_of};
 ghost use Rattle.labyrinth.specs.Keys.{E, U};

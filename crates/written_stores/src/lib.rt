@@ -1,4 +1,6 @@
 // A store written to lent bytes. The layout is that of the crate records.
+#![tactic(auto)]
+
 ghost use Rattle.std.specs.Prelude.{◌≡◌, ◌++◌, ◌+◌, ◌≤◌, eqb, length, take, drop};
 ghost use Rattle.forms.specs.Lists.{when};
 ghost use Rattle.records.specs.Records.{store_bytes};
