@@ -35,7 +35,7 @@ fn bit_length(b: u8) -> u32
 }
 
 // A product, and how many turns the loop took that made it.
-#[derive(Drop)]
+#[derive(Clone, Copy)]
 pub struct Product {
     pub value: u8,
     pub turns: u32,

@@ -6,7 +6,7 @@ ghost use Rattle.pages.specs.Pages.{begins, four_byte_number, times15, headed, e
 ghost use Rattle.catalogue.specs.Catalogue.{entry, title_part};
 
 // What the catalogue reader answers beside the title: document 02's number, and the page's number, day and block count.
-#[derive(Drop)]
+#[derive(Clone, Copy)]
 pub struct Entry {
     pub number: u8,
     pub page: u32,

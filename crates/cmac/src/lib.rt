@@ -18,7 +18,7 @@ use labyrinth::WorkingKey;
 use sets::Store;
 
 // What verifying answers: the number, and whether the given tag is the message's. A refusal is a no.
-#[derive(Drop)]
+#[derive(Clone, Copy)]
 pub struct Verified {
     pub number: u8,
     pub yes: bool,

@@ -123,7 +123,7 @@ fn search(m: [[u8; 8]; 8], a: [[u8; 8]; 8], n: usize, z: usize) -> u64
 }
 
 // What the judge answers: yes or no, and with a no a word that falls short, with a yes the zero word.
-#[derive(Drop)]
+#[derive(Clone, Copy)]
 pub struct Verdict {
     pub yes: bool,
     pub word: u64,

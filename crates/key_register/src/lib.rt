@@ -149,7 +149,7 @@ pub fn add(r: Register, number: u16, replaces: u16, key: [u8; 40]) -> Added
 }
 
 // Where a chain ends, and how many replacements were followed to there.
-#[derive(Drop)]
+#[derive(Clone, Copy)]
 struct End {
     place: usize,
     followed: usize,

@@ -6,7 +6,7 @@ ghost use Rattle.labyrinth.specs.Refusals.{legal, under_key};
 
 // A working key: half-block k_j, j = 0 to 7, is words jn to jn + n - 1, and it names its set of tables. One made by hand is
 // taken too; its n and its set are never adjusted.
-#[derive(Drop)]
+#[derive(Clone, Copy)]
 pub struct WorkingKey {
     pub n: usize,
     pub set: usize,
@@ -14,14 +14,14 @@ pub struct WorkingKey {
 }
 
 // What expansion answers: document 01's number, and the key.
-#[derive(Drop)]
+#[derive(Clone, Copy)]
 pub struct Expanded {
     pub number: u8,
     pub key: WorkingKey,
 }
 
 // The two halves of a block in the code, of which n words each are used and the others are 0.
-#[derive(Drop)]
+#[derive(Clone, Copy)]
 pub struct Halves {
     pub high: [u64; 4],
     pub low: [u64; 4],

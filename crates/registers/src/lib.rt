@@ -4,7 +4,7 @@
 #![tactic(auto)]
 
 // A page key: its number, the number that it replaces (0 for none), and 40 bytes of wrapped key.
-#[derive(Drop)]
+#[derive(Clone, Copy)]
 pub struct Entry {
     pub number: u16,
     pub replaces: u16,
@@ -12,21 +12,21 @@ pub struct Entry {
 }
 
 // The first `count` entries are held, in the order of their adding; a count above 64, in a register made by hand, is read as 64.
-#[derive(Drop)]
+#[derive(Clone, Copy)]
 pub struct Register {
     pub count: usize,
     pub entries: [Entry; 64],
 }
 
 // What adding answers: the number, and the register.
-#[derive(Drop)]
+#[derive(Clone, Copy)]
 pub struct Added {
     pub number: u8,
     pub register: Register,
 }
 
 // What a look-up answers: the number, the entry at the end of the replacements, the rule that decided, and how many replacements were followed.
-#[derive(Drop)]
+#[derive(Clone, Copy)]
 pub struct Found {
     pub number: u8,
     pub entry: Entry,

@@ -37,7 +37,7 @@ pub fn row_refusal(g: [u8; 8]) -> u8
 }
 
 // What mixing answers: the number, and the mixed word, or the zero word on a refusal.
-#[derive(Drop)]
+#[derive(Clone, Copy)]
 pub struct Mixed {
     pub number: u8,
     pub word: u64,
@@ -131,7 +131,7 @@ fn power(g: [u8; 8], n: usize) -> u64
 }
 
 // What inversion answers: the number, and the inverse row, or the zero row on a refusal.
-#[derive(Drop)]
+#[derive(Clone, Copy)]
 pub struct Inverted {
     pub number: u8,
     pub row: [u8; 8],

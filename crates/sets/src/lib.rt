@@ -4,21 +4,21 @@
 #![tactic(auto)]
 
 // A substitution and a row.
-#[derive(Drop)]
+#[derive(Clone, Copy)]
 pub struct Set {
     pub substitution: [u8; 256],
     pub row: [u8; 8],
 }
 
 // Sets 0 to 3, and for each of two publishers the number of the set that it has taken: 4 or more for none. One made by hand is taken too.
-#[derive(Drop)]
+#[derive(Clone, Copy)]
 pub struct Store {
     pub sets: [Set; 4],
     pub taken: [usize; 2],
 }
 
 // What a load or a take answers: the number, and the store.
-#[derive(Drop)]
+#[derive(Clone, Copy)]
 pub struct Changed {
     pub number: u8,
     pub store: Store,

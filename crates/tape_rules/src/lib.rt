@@ -8,7 +8,7 @@ ghost use Rattle.tape_rules.specs.Steps as spec;
 use labyrinth::WorkingKey;
 
 // The state of a tape: the working key, whether one was set, and whether the tape has ended. One made by hand is taken too.
-#[derive(Drop)]
+#[derive(Clone, Copy)]
 pub struct Tape {
     pub key: WorkingKey,
     pub keyed: bool,
@@ -16,7 +16,7 @@ pub struct Tape {
 }
 
 // What a step returns: document 01's number, the bytes taken of the rest, the bytes written of the answer, and the next state.
-#[derive(Drop)]
+#[derive(Clone, Copy)]
 pub struct Stepped {
     pub number: u8,
     pub taken: usize,

@@ -10,7 +10,7 @@ ghost use Rattle.tape_run.specs.Runs.{run as wholeRun};
 use tape_rules::{Stepped, Tape};
 
 // What a run returns: a number, and the bytes written of the answers.
-#[derive(Drop)]
+#[derive(Clone, Copy)]
 pub struct Answered {
     pub number: u8,
     pub length: usize,

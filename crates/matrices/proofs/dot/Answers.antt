@@ -1,0 +1,28 @@
+-- After j turns the sum is that over the bytes below j.
+-- Assumes nothing.
+use mathlib.Core.Path.{◌≡◌, refl, ap₂, ◌∙◌}
+use Prim.Native.Nat.{◌≤◌, ◌-◌}
+use native.Mathlib.Omega.{arith}
+use lib.ListN.{get_or}
+use borrow.Author.Rules.{rules}
+use Rattle.forms.specs.Lists.{xor_sum}
+use Rattle.forms.specs.Words.{byte}
+use Rattle.forms.proofs.Sums.{xor_sum_next, xor_sum_end}
+use Rattle.field.specs.Field.{mul}
+use Rattle.field.specs.Mixing.{dot}
+use Rattle.matrices.proofs.dot.Goals as goal
+
+pub loop-j-init : goal.loop-j-init
+unfolding xor_sum
+loop-j-init c = (omega arith, refl)
+
+pub loop-j-preserved : goal.loop-j-preserved
+loop-j-preserved c =
+    let l = c.loop-j in (
+      omega arith,
+      xor_sum_next l.j _ l.invariant.1 (c.times-p.ensures.value ∙ ap₂ mul c.byte_at.ensures refl),
+    )
+
+pub returns : goal.returns
+unfolding dot
+returns c = let l = c.loop-j in let e : l.j ≡ 8 = omega arith in xor_sum_end _ e l.invariant.1

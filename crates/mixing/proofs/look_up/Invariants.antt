@@ -1,0 +1,19 @@
+-- After j turns the word is the XOR over the bytes below j.
+-- Assumes nothing.
+use mathlib.Core.Path.{◌≡◌, refl, ap₂, ◌∙◌}
+use Prim.Native.Nat.{ℕ, ◌≤◌, ◌-◌, ◌*◌}
+use native.Mathlib.Omega.{arith}
+use lib.ListN.{get_or}
+use borrow.Author.Rules.{rules}
+use Rattle.forms.specs.Lists.{xor_sum}
+use Rattle.forms.specs.Words.{byte, rotl}
+use Rattle.forms.proofs.Sums.{xor_sum_next, xor_sum_end}
+use Rattle.forms.proofs.Words.{byte_is_lt}
+use Rattle.field.specs.Merged.{lookup}
+use Rattle.mixing.proofs.look_up.Given as goal
+
+abbrev pub invariant-loop-j : goal.invariant-loop-j
+invariant-loop-j l = (l.j ≤ 8) × (l.r ≡ xor_sum l.j (λ k. rotl (get_or l.t (byte l.w k) 0) (8 * k)))
+
+abbrev pub decreases-loop-j : goal.decreases-loop-j
+decreases-loop-j l = 8 - l.j

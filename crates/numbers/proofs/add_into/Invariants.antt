@@ -1,0 +1,18 @@
+-- The carry stands before byte i: the bytes before it still stand, those from it on are done.
+-- Assumes nothing.
+use mathlib.Core.Path.{◌≡◌, refl, sym, ap, ◌∙◌}
+use Prim.Native.Nat.{ℕ, ◌+◌, ◌-◌, ◌/◌, ◌%◌, ◌^◌, ◌≤◌, ◌<◌}
+use native.Mathlib.Omega.{arith}
+use lib.ListN.{length, get_or, take, set, length-set}
+use borrow.Author.Tests.{not-false, eqb-true}
+use borrow.Author.Rules.{rules}
+use Rattle.forms.specs.Strings.{number, string}
+use Rattle.numbers.proofs.Adding.{added, added_first, added_next, before_next, added_none, scaled_all}
+use Rattle.numbers.proofs.add_into.Given as goal
+
+abbrev pub invariant-loop-i : goal.invariant-loop-i
+invariant-loop-i l =
+    (l.i ≤ length l.initial.c) × (length l.c ≡ length l.initial.c) × (l.carry < 2 ^ 64) × (take l.i l.c ≡ take l.i l.initial.c) × (added l.c l.i l.carry ≡ string (length l.initial.c) (number l.initial.c + l.v))
+
+abbrev pub decreases-loop-i : goal.decreases-loop-i
+decreases-loop-i l = l.i

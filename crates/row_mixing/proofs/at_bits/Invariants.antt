@@ -1,0 +1,19 @@
+-- After t turns the word is the XOR over the bits below t.
+-- Assumes nothing.
+use mathlib.Core.Path.{◌≡◌, refl}
+use Prim.Native.Nat.{◌≤◌, ◌-◌, ◌*◌, ◌/◌, ◌%◌, ◌^◌}
+use native.Mathlib.Omega.{arith}
+use mir.Syntax.{w64}
+use lib.ListN.{get_or}
+use borrow.Author.Rules.{rules, elem_Fits}
+use Rattle.forms.specs.Lists.{xor_sum}
+use Rattle.forms.proofs.Xor.{parity}
+use Rattle.forms.proofs.Sums.{xor_sum_next, xor_sum_end}
+use Rattle.field.proofs.Field.{digit_lt}
+use Rattle.row_mixing.proofs.at_bits.Given as goal
+
+abbrev pub invariant-loop-t : goal.invariant-loop-t
+invariant-loop-t l = (l.t ≤ 8) × (l.r ≡ xor_sum l.t (λ k. l.c / 2 ^ k % 2 * get_or l.p k 0))
+
+abbrev pub decreases-loop-t : goal.decreases-loop-t
+decreases-loop-t l = 8 - l.t

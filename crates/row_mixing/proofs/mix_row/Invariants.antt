@@ -1,0 +1,20 @@
+-- After k turns the word is the XOR over the coefficients below k.
+-- Assumes nothing.
+use mathlib.Core.Path.{◌≡◌, refl, sym, ap₂, ◌∙◌}
+use Prim.Native.Nat.{◌≤◌, ◌-◌, ◌*◌}
+use native.Mathlib.Omega.{arith}
+use lib.ListN.{get_or}
+use borrow.Author.Rules.{rules}
+use Rattle.forms.specs.Lists.{xor_sum}
+use Rattle.forms.specs.Words.{rotl}
+use Rattle.forms.proofs.Sums.{xor_sum_next, xor_sum_end}
+use Rattle.field.specs.Mixing.{scale}
+use Rattle.field.proofs.Scale.{scale_powers}
+use Rattle.field.proofs.Mixing.{mix_coefficients}
+use Rattle.row_mixing.proofs.mix_row.Given as goal
+
+abbrev pub invariant-loop-k : goal.invariant-loop-k
+invariant-loop-k l = (l.k ≤ 8) × (l.r ≡ xor_sum l.k (λ j. rotl (scale (get_or l.g j 0) l.w) (8 * j)))
+
+abbrev pub decreases-loop-k : goal.decreases-loop-k
+decreases-loop-k l = 8 - l.k

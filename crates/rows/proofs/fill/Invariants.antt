@@ -1,0 +1,19 @@
+-- After b turns the words below b are there.
+-- Assumes nothing.
+use mathlib.Core.Path.{◌≡◌, sym, ap, ◌∙◌}
+use Prim.Native.Nat.{ℕ, ◌≤◌, ◌<◌, ◌-◌}
+use native.Mathlib.Omega.{arith}
+use lib.ListN.{length, get_or, length-set}
+use borrow.Author.Rules.{rules}
+use Rattle.forms.proofs.Lists.{get_or_filled, tabulated}
+use Rattle.field.specs.Substitution.{sub}
+use Rattle.field.specs.Mixing.{scale}
+use Rattle.field.specs.Merged.{entry, merged}
+use Rattle.field.proofs.Merged.{LCM_scale}
+use Rattle.rows.proofs.fill.Given as goal
+
+abbrev pub invariant-loop-b : goal.invariant-loop-b
+invariant-loop-b l = (l.b ≤ 256) × (length l.table ≡ 256) × ((k : ℕ) → k < l.b → get_or l.table k 0 ≡ scale (sub l.s k) l.row)
+
+abbrev pub decreases-loop-b : goal.decreases-loop-b
+decreases-loop-b l = 256 - l.b

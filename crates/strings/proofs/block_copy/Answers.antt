@@ -1,0 +1,7 @@
+-- The block is copied over zeros.
+-- Assumes nothing.
+use borrow.Author.Rules.{rules}
+use Rattle.strings.proofs.block_copy.Goals as goal
+
+pub returns : goal.returns
+returns c = c.copy_into.ensures

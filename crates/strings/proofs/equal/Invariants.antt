@@ -1,0 +1,16 @@
+-- What differed before `at` is gathered, and what is left decides the rest.
+-- Assumes nothing.
+use mathlib.Core.Path.{◌≡◌, refl, sym, ◌∙◌}
+use Prim.Native.Nat.{◌-◌, ◌≤◌}
+use native.Mathlib.Omega.{arith}
+use lib.ListN.{length}
+use borrow.Author.Rules.{rules}
+use Rattle.forms.specs.Strings.{same}
+use Rattle.strings.proofs.Comparing.{same_not, compared, compared_next, compared_all}
+use Rattle.strings.proofs.equal.Given as goal
+
+abbrev pub invariant-loop-at : goal.invariant-loop-at
+invariant-loop-at l = (same l.a l.b ≡ compared l.a l.b l.at l.different) × (l.at ≤ length l.a)
+
+abbrev pub decreases-loop-at : goal.decreases-loop-at
+decreases-loop-at l = length l.a - l.at

@@ -1,0 +1,31 @@
+-- The length, then byte by byte from the last: one that was marked before stands twice.
+-- Assumes nothing.
+use mathlib.Core.Path.{sym}
+use Prim.Native.Nat.{◌-◌, ◌≤◌}
+use native.Mathlib.Omega.{arith}
+use Rattle.substitutions.proofs.Seen.{Seen, seen_none, seen_more, seen_again, seen_all, short}
+use borrow.Author.Rules.{rules}
+use Rattle.substitutions.proofs.is_different.Goals as goal
+
+pub returns-then-s-ne256 : goal.returns-then-s-ne256
+returns-then-s-ne256 c = sym (short c.args.s.now c.if-s-ne256.true)
+
+pub loop-i-init : goal.loop-i-init
+loop-i-init c = (search rules, seen_none c.args.s.now 256 (omega arith))
+
+pub returns-then-seen-x : goal.returns-then-seen-x
+returns-then-seen-x c =
+    let l = c.loop-i in
+    let s = c.args.s.now in
+    sym (seen_again s l.i (l.i - 1) (omega arith) (omega arith) c.place-x.ensures.0 c.place-x.ensures.1 l.invariant.1 c.if-seen-x.true)
+
+pub loop-i-preserved : goal.loop-i-preserved
+loop-i-preserved c =
+    let l = c.loop-i in
+    let s = c.args.s.now in
+    (omega arith, seen_more s l.i (l.i - 1) (omega arith) (omega arith) c.place-x.ensures.0 c.place-x.ensures.1 l.invariant.1 c.if-seen-x.false)
+
+pub returns : goal.returns
+returns c =
+    let s = c.args.s.now in
+    sym (seen_all s c.loop-i.i (omega arith) (λ k. omega (arith, c.shared_slice_known-1.given k)) (omega arith) c.loop-i.invariant.1)
