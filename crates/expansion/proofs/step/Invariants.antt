@@ -1,0 +1,17 @@
+-- After i turns the first i words are stepped.
+-- Assumes nothing.
+use Rattle.std.proofs.Common.{◌≡◌, ℕ, ◌-◌, ◌≤◌, get_or, take, sym, ap, ◌∙◌, arith, get_or-take, rules}
+use lib.Bits.{bit_xor}
+use Rattle.forms.specs.Lists.{tabulate}
+use Rattle.labyrinth.specs.Blocks.{plus, each}
+use Rattle.labyrinth.specs.Keys.{delta}
+use Rattle.labyrinth.specs.Working.{four_words}
+use Rattle.labyrinth.proofs.FourWords.{four_none, four_more, four_end}
+use Rattle.std.proofs.num.wrapping_add_u64.Reads as wrapping-add-u64-reads
+use Rattle.expansion.proofs.step.Given as goal
+
+abbrev pub invariant-loop-i : goal.invariant-loop-i
+invariant-loop-i l = (l.i ≤ l.n) × (l.r ≡ four_words (tabulate l.i (λ j. bit_xor (plus (get_or (take l.n l.g) j 0) 0x1084210842108421) 0x4444444444444444)))
+
+abbrev pub decreases-loop-i : goal.decreases-loop-i
+decreases-loop-i l = l.n - l.i

@@ -1,0 +1,12 @@
+-- After j turns the sum is that of the half-blocks below j.
+-- Assumes nothing.
+use Rattle.std.proofs.Common.{◌≡◌, ℕ, ◌+◌, ◌-◌, ◌*◌, ◌≤◌, List, get_or, refl, ap, arith, rules}
+use Rattle.forms.specs.Lists.{xor_sum}
+use Rattle.forms.proofs.Sums.{xor_sum_next, xor_sum_end}
+use Rattle.expansion.proofs.xor_column.Given as goal
+
+abbrev pub invariant-loop-j : goal.invariant-loop-j
+invariant-loop-j l = (l.j ≤ l.l) × (l.r ≡ xor_sum l.j (λ k. get_or l.w (k * l.n + l.i) 0))
+
+abbrev pub decreases-loop-j : goal.decreases-loop-j
+decreases-loop-j l = l.l - l.j

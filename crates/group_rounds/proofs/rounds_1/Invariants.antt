@@ -1,0 +1,13 @@
+-- At an even place turns + 2 of the schedule so many iterations are done.
+-- Assumes nothing.
+use Rattle.std.proofs.Common.{◌≡◌, ◌-◌, ◌%◌, true, refl, arith, rules}
+use Rattle.labyrinth.specs.Working.{both, lookup_in}
+use Rattle.labyrinth.proofs.Sizes.{size_one}
+use Rattle.group_rounds.proofs.Rounds.{Ran, ran_none, ran_lengths, ran_two, ran_all}
+use Rattle.group_rounds.proofs.rounds_1.Given as goal
+
+abbrev pub invariant-loop-at : goal.invariant-loop-at
+invariant-loop-at l = (l.at % 2 ≡ 0) × Ran (lookup_in true l.t) 1 l.ks (both l.initial.l l.initial.r) l.at (both l.l l.r)
+
+abbrev pub decreases-loop-at : goal.decreases-loop-at
+decreases-loop-at l = 18 - l.at

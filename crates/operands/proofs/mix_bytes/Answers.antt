@@ -1,0 +1,14 @@
+-- The bytes of the word mixed by the published row, which is accepted.
+-- Assumes nothing.
+use mathlib.Core.Path.{refl}
+use native.Mathlib.Omega.{arith}
+use Rattle.field.specs.Mixing.{mix}
+use Rattle.field.specs.Published.{row}
+use Rattle.rows.proofs.Rows.{published_word}
+use Rattle.operands.proofs.Operands.{word_mapped}
+use borrow.Author.Rules.{rules}
+use Rattle.operands.proofs.mix_bytes.Goals as goal
+
+pub returns : goal.returns
+returns c =
+    word_mapped (mix row) c.args.b.now _ (omega arith) refl c.load_word.ensures (published_word _ c.row.ensures c.mix-m.ensures) c.store_word.ensures

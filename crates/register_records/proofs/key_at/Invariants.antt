@@ -1,0 +1,16 @@
+-- The bytes below i have come in.
+-- Assumes nothing.
+use mathlib.Core.Path.{◌≡◌, refl}
+use Prim.Native.Nat.{◌≤◌, ◌+◌, ◌-◌}
+use native.Mathlib.Omega.{arith}
+use lib.ListN.{length, get_or}
+use Rattle.forms.specs.Lists.{words_from}
+use Rattle.forms.proofs.Lists.{Replaced, replaced_none, replaced_more, replaced_all}
+use borrow.Author.Rules.{rules}
+use Rattle.register_records.proofs.key_at.Given as goal
+
+abbrev pub invariant-loop-i : goal.invariant-loop-i
+invariant-loop-i l = (l.i ≤ 40) × Replaced (λ j. get_or l.b (l.at + j) 0) l.initial.k l.i l.k × (length l.initial.k ≡ 40)
+
+abbrev pub decreases-loop-i : goal.decreases-loop-i
+decreases-loop-i l = 40 - l.i

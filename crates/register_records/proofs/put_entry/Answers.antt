@@ -1,0 +1,13 @@
+-- An entry laid in a buffer of its length.
+-- Assumes nothing.
+use Rattle.forms.proofs.Whole.{not_written}
+use Rattle.register_records.proofs.Parts.{entry_written}
+use borrow.Author.Rules.{rules}
+use Rattle.register_records.proofs.put_entry.Goals as goal
+
+pub returns-then-d-ne44 : goal.returns-then-d-ne44
+returns-then-d-ne44 c = not_written _ _ 44 c.if-d-ne44.true
+
+pub returns : goal.returns
+returns c =
+    entry_written c.args.e c.args.d.now c.if-d-ne44.false c.lay.ensures

@@ -1,0 +1,9 @@
+-- The place is the byte itself.
+-- Assumes nothing.
+use Rattle.std.proofs.Common.{refl, rules}
+use Rattle.forms.specs.Words.{byte}
+use Rattle.table_rounds.proofs.place.Goals as goal
+
+pub returns : goal.returns
+unfolding byte
+returns c = refl

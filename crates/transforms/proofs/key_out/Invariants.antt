@@ -1,0 +1,17 @@
+-- After j turns the bytes of the words below j have gone out.
+-- Assumes nothing.
+use Rattle.std.proofs.Common.{◌≡◌, ℕ, ◌+◌, ◌-◌, ◌*◌, ◌<◌, ◌≤◌, length, get_or, refl, ap, ◌∙◌, mod-eq_of_lt, arith, rules}
+use Rattle.forms.specs.Lists.{tabulate}
+use Rattle.forms.specs.Words.{rotl, each_byte, bytes}
+use Rattle.forms.proofs.Buffers.{put, put_none, put_bytes}
+use Rattle.buffers.proofs.Words.{with_word_lem}
+use Rattle.field.specs.Substitution.{sub}
+use Rattle.labyrinth.specs.Blocks.{minus}
+use Rattle.labyrinth.proofs.Ends.{out_half, get_or_out_half}
+use Rattle.transforms.proofs.key_out.Given as goal
+
+abbrev pub invariant-loop-j : goal.invariant-loop-j
+invariant-loop-j l = (l.j ≤ l.n) × (length l.dst ≡ length l.initial.dst) × (l.dst ≡ put l.at (8 * l.j) (bytes l.j (out_half (sub l.u) l.n l.ks l.k l.turn l.x)) l.initial.dst)
+
+abbrev pub decreases-loop-j : goal.decreases-loop-j
+decreases-loop-j l = l.n - l.j

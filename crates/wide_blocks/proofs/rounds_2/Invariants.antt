@@ -1,0 +1,13 @@
+-- At a place 2 * (turns + 2) of the schedule so many iterations are done.
+-- Assumes nothing.
+use Rattle.std.proofs.Common.{◌-◌, arith, rules}
+use Rattle.labyrinth.specs.Groups.{lookup_four}
+use Rattle.labyrinth.proofs.Sizes.{size_two}
+use Rattle.wide_blocks.proofs.Rounds.{Ran, ran_none, ran_inside, ran_more, ran_all}
+use Rattle.wide_blocks.proofs.rounds_2.Given as goal
+
+abbrev pub invariant-loop-at : goal.invariant-loop-at
+invariant-loop-at l = Ran (lookup_four l.t) 2 l.ks l.initial.y l.at l.y
+
+abbrev pub decreases-loop-at : goal.decreases-loop-at
+decreases-loop-at l = 36 - l.at
