@@ -7,7 +7,7 @@
 ghost use Rattle.std.specs.Prelude.{◌≡◌, List, ℕ, ◌*◌, ◌%◌, length};
 ghost use Rattle.forms.specs.Refusals.{outcome};
 ghost use Rattle.labyrinth.specs.Working.{Size};
-ghost use Rattle.labyrinth.specs.Lent.{lent, Gives};
+ghost use Rattle.labyrinth.specs.Lent.{lent};
 ghost use Rattle.modes.specs.Cbc.{cbc_seal, cbc_open};
 ghost use Rattle.modes.specs.Refusals.{cbc_refusal};
 
@@ -46,10 +46,8 @@ fn open_run(
     src: &[u8],
     dst: &mut [u8],
 )
-    ghost m: { List ℕ → List ℕ }
-    requires gives { Gives m n t.now s.now u.now ks.now }
-    requires size { Size n × (length start.now ≡ 16 * n) × (length src.now % (16 * n) ≡ 0) × (length dst.old ≡ length src.now) }
-    ensures { dst.new ≡ cbc_open m (16 * n) start.now src.now }
+    requires { Size n × (length start.now ≡ 16 * n) × (length src.now % (16 * n) ≡ 0) × (length dst.old ≡ length src.now) }
+    ensures { let m : List ℕ → List ℕ = lent n t.now s.now u.now ks.now in dst.new ≡ cbc_open m (16 * n) start.now src.now }
 {
     let size = start.len();
     if src.len() != 0 {

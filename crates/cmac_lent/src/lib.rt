@@ -7,7 +7,7 @@
 ghost use Rattle.std.specs.Prelude.{◌≡◌, List, ℕ, ◌*◌, ◌-◌, length, replicate};
 ghost use Rattle.forms.specs.Refusals.{outcome};
 ghost use Rattle.forms.specs.Strings.{xor_bytes};
-ghost use Rattle.labyrinth.specs.Lent.{lent, Gives};
+ghost use Rattle.labyrinth.specs.Lent.{lent};
 ghost use Rattle.modes.specs.Cmac.{block_count, mac};
 ghost use Rattle.modes.specs.Cmac.{tag as madeTag};
 ghost use Rattle.modes.specs.Refusals.{cmac_refusal};
@@ -21,9 +21,7 @@ fn front(size: usize) -> usize
 
 // The block of zeros enciphered: the standard's L.
 fn zeros_enciphered(t: &[u64; 256], s: &[u8; 256], u: &[u8; 256], ks: &[u64; 80]) -> [u8; 16]
-    ghost m: { List ℕ → List ℕ }
-    requires { Gives m 1 t.now s.now u.now ks.now }
-    ensures { result ≡ m (replicate 16 0) }
+    ensures { let m : List ℕ → List ℕ = lent 1 t.now s.now u.now ks.now in result ≡ m (replicate 16 0) }
 {
     let zeros = [0u8; 16];
     let mut l = [0u8; 16];
@@ -40,10 +38,8 @@ fn chain_block(
     c: &mut [u8],
     block: &[u8],
 )
-    ghost m: { List ℕ → List ℕ }
-    requires gives { Gives m 1 t.now s.now u.now ks.now }
-    requires c_len { (length c.old ≡ 16) × (length block.now ≡ 16) }
-    ensures { c.new ≡ m (xor_bytes c.old block.now) }
+    requires { (length c.old ≡ 16) × (length block.now ≡ 16) }
+    ensures { let m : List ℕ → List ℕ = lent 1 t.now s.now u.now ks.now in c.new ≡ m (xor_bytes c.old block.now) }
 {
     let mut x = [0u8; 16];
     strings::xor_to(&mut x, c, block);

@@ -8,7 +8,7 @@ ghost use Rattle.std.specs.Prelude.{◌≡◌, ℕ, ◌+◌, ◌-◌, ◌*◌, �
 ghost use Rattle.forms.specs.Refusals.{outcome};
 ghost use Rattle.forms.specs.Strings.{xor_bytes, number, string};
 ghost use Rattle.labyrinth.specs.Working.{Size};
-ghost use Rattle.labyrinth.specs.Lent.{lent, Gives};
+ghost use Rattle.labyrinth.specs.Lent.{lent};
 ghost use Rattle.modes.specs.Ctr.{counter, ctr};
 ghost use Rattle.modes.specs.Refusals.{ctr_refusal};
 ghost use Rattle.ctr_lent.specs.Counting.{counter_blocks};
@@ -59,10 +59,8 @@ fn ctr_block(
     src: &[u8],
     dst: &mut [u8],
 )
-    ghost m: { List ℕ → List ℕ }
-    requires gives { Gives m n t.now s.now u.now ks.now }
-    requires size { Size n × (length counter.now ≡ 16 * n) × (length src.now ≤ 16 * n) × (length dst.old ≡ length src.now) }
-    ensures { dst.new ≡ xor_bytes src.now (m counter.now) }
+    requires { Size n × (length counter.now ≡ 16 * n) × (length src.now ≤ 16 * n) × (length dst.old ≡ length src.now) }
+    ensures { let m : List ℕ → List ℕ = lent n t.now s.now u.now ks.now in dst.new ≡ xor_bytes src.now (m counter.now) }
 {
     let size = counter.len();
     let mut stream = strings::zero_block();
@@ -81,10 +79,8 @@ fn ctr_blocks(
     src: &[u8],
     dst: &mut [u8],
 )
-    ghost m: { List ℕ → List ℕ }
-    requires gives { Gives m n t.now s.now u.now ks.now }
-    requires size { Size n × (length counter.old ≡ 16 * n) × (length dst.old ≡ length src.now) }
-    ensures { dst.new ≡ ctr m (16 * n) counter.old 0 src.now }
+    requires { Size n × (length counter.old ≡ 16 * n) × (length dst.old ≡ length src.now) }
+    ensures { let m : List ℕ → List ℕ = lent n t.now s.now u.now ks.now in dst.new ≡ ctr m (16 * n) counter.old 0 src.now }
 {
     let size = counter.len();
     let whole = src.len() / size * size;
@@ -106,10 +102,8 @@ fn from_counter(
     src: &[u8],
     dst: &mut [u8],
 )
-    ghost m: { List ℕ → List ℕ }
-    requires gives { Gives m n t.now s.now u.now ks.now }
-    requires size { Size n × (length counter.old ≡ 16 * n) × (length dst.old ≡ length src.now) }
-    ensures { dst.new ≡ ctr m (16 * n) counter.old 0 src.now }
+    requires { Size n × (length counter.old ≡ 16 * n) × (length dst.old ≡ length src.now) }
+    ensures { let m : List ℕ → List ℕ = lent n t.now s.now u.now ks.now in dst.new ≡ ctr m (16 * n) counter.old 0 src.now }
 {
     if src.len() <= counter.len() {
         ctr_block(t, s, u, n, ks, counter, src, dst);
@@ -130,10 +124,8 @@ fn ctr_run(
     src: &[u8],
     dst: &mut [u8],
 )
-    ghost m: { List ℕ → List ℕ }
-    requires gives { Gives m n t.now s.now u.now ks.now }
-    requires size { Size n × (length start.now ≡ 16 * n) × (length dst.old ≡ length src.now) }
-    ensures { dst.new ≡ ctr m (16 * n) start.now q src.now }
+    requires { Size n × (length start.now ≡ 16 * n) × (length dst.old ≡ length src.now) }
+    ensures { let m : List ℕ → List ℕ = lent n t.now s.now u.now ks.now in dst.new ≡ ctr m (16 * n) start.now q src.now }
 {
     let size = start.len();
     let mut counter = strings::block_copy(start);

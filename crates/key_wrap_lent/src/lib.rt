@@ -5,7 +5,7 @@
 
 ghost use Rattle.std.specs.Prelude.{◌≡◌, List, ℕ, ◌+◌, ◌%◌, ◌≤◌, length};
 ghost use Rattle.forms.specs.Refusals.{unless, outcome};
-ghost use Rattle.labyrinth.specs.Lent.{lent, Gives};
+ghost use Rattle.labyrinth.specs.Lent.{lent};
 ghost use Rattle.modes.specs.KeyWrap.{ICV1, wrapped, authentic, unwrapped};
 ghost use Rattle.modes.specs.Refusals.{wrap_refusal, unwrap_refusal};
 
@@ -32,10 +32,8 @@ fn wrap_into(
     src: &[u8],
     dst: &mut [u8],
 )
-    ghost m: { List ℕ → List ℕ }
-    requires gives { Gives m 1 t.now s.now u.now ks.now }
-    requires src_len { (length src.now % 8 ≡ 0) × (length src.now ≤ 128) × (length dst.old ≡ length src.now + 8) }
-    ensures { dst.new ≡ wrapped m src.now }
+    requires { (length src.now % 8 ≡ 0) × (length src.now ≤ 128) × (length dst.old ≡ length src.now + 8) }
+    ensures { let m : List ℕ → List ℕ = lent 1 t.now s.now u.now ks.now in dst.new ≡ wrapped m src.now }
 {
     let mut a = check_value();
     strings::copy_into(&mut dst[8..], src);
@@ -52,11 +50,9 @@ fn unwrap_into(
     src: &[u8],
     dst: &mut [u8],
 ) -> u8
-    ghost m: { List ℕ → List ℕ }
-    requires gives { Gives m 1 t.now s.now u.now ks.now }
-    requires src_len { (length src.now % 8 ≡ 0) × (length src.now ≤ 136) × (length src.now ≡ length dst.old + 8) }
-    ensures number { result ≡ unless (authentic m src.now) 18 0 }
-    ensures key { dst.new ≡ outcome result (unwrapped m src.now) dst.old }
+    requires { (length src.now % 8 ≡ 0) × (length src.now ≤ 136) × (length src.now ≡ length dst.old + 8) }
+    ensures number { let m : List ℕ → List ℕ = lent 1 t.now s.now u.now ks.now in result ≡ unless (authentic m src.now) 18 0 }
+    ensures key { let m : List ℕ → List ℕ = lent 1 t.now s.now u.now ks.now in dst.new ≡ outcome result (unwrapped m src.now) dst.old }
 {
     let size = dst.len();
     let mut a = [0u8; 8];

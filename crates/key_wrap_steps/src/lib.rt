@@ -6,7 +6,7 @@
 ghost use Rattle.std.specs.Prelude.{◌≡◌, List, ◌++◌, ℕ, ◌+◌, ◌-◌, ◌/◌, ◌%◌, ◌≤◌, ◌<◌, length};
 ghost use Rattle.forms.specs.Refusals.{outcome};
 ghost use Rattle.forms.specs.Strings.{xor_bytes, string};
-ghost use Rattle.labyrinth.specs.Lent.{lent, Gives};
+ghost use Rattle.labyrinth.specs.Lent.{lent};
 ghost use Rattle.modes.specs.KeyWrap.{MSB64, LSB64, W, W⁻¹, unwrap_steps};
 ghost use Rattle.key_wrap_steps.specs.Steps.{steps_refusal, wrap_more};
 
@@ -27,11 +27,9 @@ fn map_halves(
     a: &mut [u8],
     r: &mut [u8],
 )
-    ghost m: { List ℕ → List ℕ }
-    requires gives { Gives m 1 t.now s.now u.now ks.now }
-    requires a_len { (length a.old ≡ 8) × (length r.old ≡ 8) }
-    ensures first { a.new ≡ MSB64 (m (a.old ++ r.old)) }
-    ensures second { r.new ≡ LSB64 (m (a.old ++ r.old)) }
+    requires { (length a.old ≡ 8) × (length r.old ≡ 8) }
+    ensures first { let m : List ℕ → List ℕ = lent 1 t.now s.now u.now ks.now in a.new ≡ MSB64 (m (a.old ++ r.old)) }
+    ensures second { let m : List ℕ → List ℕ = lent 1 t.now s.now u.now ks.now in r.new ≡ LSB64 (m (a.old ++ r.old)) }
 {
     let mut block = [0u8; 16];
     strings::copy_into(&mut block, a);
@@ -52,11 +50,9 @@ fn wrap_step(
     r: &mut [u8],
     number: u8,
 )
-    ghost m: { List ℕ → List ℕ }
-    requires gives { Gives m 1 t.now s.now u.now ks.now }
-    requires a_len { (length a.old ≡ 8) × (length r.old ≡ 8) }
-    ensures first { a.new ≡ xor_bytes (MSB64 (m (a.old ++ r.old))) (string 8 number) }
-    ensures second { r.new ≡ LSB64 (m (a.old ++ r.old)) }
+    requires { (length a.old ≡ 8) × (length r.old ≡ 8) }
+    ensures first { let m : List ℕ → List ℕ = lent 1 t.now s.now u.now ks.now in a.new ≡ xor_bytes (MSB64 (m (a.old ++ r.old))) (string 8 number) }
+    ensures second { let m : List ℕ → List ℕ = lent 1 t.now s.now u.now ks.now in r.new ≡ LSB64 (m (a.old ++ r.old)) }
 {
     map_halves(t, s, u, ks, a, r);
     count_into(a, number);
@@ -72,11 +68,9 @@ fn unwrap_step(
     r: &mut [u8],
     number: u8,
 )
-    ghost m: { List ℕ → List ℕ }
-    requires gives { Gives m 1 t.now s.now u.now ks.now }
-    requires a_len { (length a.old ≡ 8) × (length r.old ≡ 8) }
-    ensures first { a.new ≡ MSB64 (m (xor_bytes a.old (string 8 number) ++ r.old)) }
-    ensures second { r.new ≡ LSB64 (m (xor_bytes a.old (string 8 number) ++ r.old)) }
+    requires { (length a.old ≡ 8) × (length r.old ≡ 8) }
+    ensures first { let m : List ℕ → List ℕ = lent 1 t.now s.now u.now ks.now in a.new ≡ MSB64 (m (xor_bytes a.old (string 8 number) ++ r.old)) }
+    ensures second { let m : List ℕ → List ℕ = lent 1 t.now s.now u.now ks.now in r.new ≡ LSB64 (m (xor_bytes a.old (string 8 number) ++ r.old)) }
 {
     count_into(a, number);
     map_halves(t, s, u, ks, a, r);
@@ -92,10 +86,8 @@ fn wrap_round(
     r: &mut [u8],
     done: u8,
 )
-    ghost m: { List ℕ → List ℕ }
-    requires gives { Gives m 1 t.now s.now u.now ks.now }
-    requires a_len { (length a.old ≡ 8) × (length r.old % 8 ≡ 0) × (done + length r.old / 8 < 256) }
-    ensures { a.new ++ r.new ≡ wrap_more m done (length r.old / 8) (a.old ++ r.old) }
+    requires { (length a.old ≡ 8) × (length r.old % 8 ≡ 0) × (done + length r.old / 8 < 256) }
+    ensures { let m : List ℕ → List ℕ = lent 1 t.now s.now u.now ks.now in a.new ++ r.new ≡ wrap_more m done (length r.old / 8) (a.old ++ r.old) }
 {
     let mut number = done;
     let mut at = 0usize;
@@ -117,10 +109,8 @@ fn unwrap_round(
     r: &mut [u8],
     left: u8,
 )
-    ghost m: { List ℕ → List ℕ }
-    requires gives { Gives m 1 t.now s.now u.now ks.now }
-    requires a_len { (length a.old ≡ 8) × (length r.old % 8 ≡ 0) × (length r.old / 8 ≤ left) }
-    ensures { unwrap_steps m (left - length r.old / 8) (a.new ++ r.new) ≡ unwrap_steps m left (a.old ++ r.old) }
+    requires { (length a.old ≡ 8) × (length r.old % 8 ≡ 0) × (length r.old / 8 ≤ left) }
+    ensures { let m : List ℕ → List ℕ = lent 1 t.now s.now u.now ks.now in unwrap_steps m (left - length r.old / 8) (a.new ++ r.new) ≡ unwrap_steps m left (a.old ++ r.old) }
 {
     let mut number = left;
     let mut end = r.len();
@@ -141,10 +131,8 @@ fn wrap_rounds(
     a: &mut [u8],
     r: &mut [u8],
 )
-    ghost m: { List ℕ → List ℕ }
-    requires gives { Gives m 1 t.now s.now u.now ks.now }
-    requires a_len { (length a.old ≡ 8) × (length r.old % 8 ≡ 0) × (length r.old ≤ 128) }
-    ensures { a.new ++ r.new ≡ W m (a.old ++ r.old) }
+    requires { (length a.old ≡ 8) × (length r.old % 8 ≡ 0) × (length r.old ≤ 128) }
+    ensures { let m : List ℕ → List ℕ = lent 1 t.now s.now u.now ks.now in a.new ++ r.new ≡ W m (a.old ++ r.old) }
 {
     let count = (r.len() / 8) as u8;
     let mut done = 0u8;
@@ -165,10 +153,8 @@ fn unwrap_rounds(
     a: &mut [u8],
     r: &mut [u8],
 )
-    ghost m: { List ℕ → List ℕ }
-    requires gives { Gives m 1 t.now s.now u.now ks.now }
-    requires a_len { (length a.old ≡ 8) × (length r.old % 8 ≡ 0) × (length r.old ≤ 128) }
-    ensures { a.new ++ r.new ≡ W⁻¹ m (a.old ++ r.old) }
+    requires { (length a.old ≡ 8) × (length r.old % 8 ≡ 0) × (length r.old ≤ 128) }
+    ensures { let m : List ℕ → List ℕ = lent 1 t.now s.now u.now ks.now in a.new ++ r.new ≡ W⁻¹ m (a.old ++ r.old) }
 {
     let count = (r.len() / 8) as u8;
     let mut left = 6 * count;
