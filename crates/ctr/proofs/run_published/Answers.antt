@@ -1,0 +1,27 @@
+-- What is prepared gives E.
+-- Assumes nothing.
+use mathlib.Core.Bool.{false}
+use mathlib.Core.List.{List}
+use Prim.Native.Nat.{ℕ, ◌*◌}
+use borrow.Author.Rules.{rules}
+use Rattle.labyrinth.specs.Lent.{ArticlePrepared}
+use Rattle.labyrinth.proofs.Lent.{article_run_by_one}
+use Rattle.modes.specs.Ctr.{ctr}
+use Rattle.modes.proofs.Refusals.{ctr_taken}
+use Rattle.ctr.proofs.run_published.Goals as goal
+use Rattle.ctr.proofs.run_published.Goals.{After-schedule-ks}
+
+-- what is prepared
+made : (c : After-schedule-ks) → let k = c.args.k in ArticlePrepared false k.n k.words c.table-t.result c.substitution-s.result c.inverse-u.result c.schedule-ks.result
+made c = record {
+  table = c.table-t.ensures;
+  substitution = c.substitution-s.ensures;
+  inverse = c.inverse-u.ensures;
+  subkeys = c.schedule-ks.ensures;
+}
+
+pub returns : goal.returns
+returns c =
+    let a = c.args in
+    let run = c.run_lent.ensures in
+    record { number = run.number; run = article_run_by_one (made (goal.at.returns c).After-schedule-ks) (λ (m : List ℕ → List ℕ). ctr m (16 * a.k.n) a.start.now a.q a.src.now) a.dst.now (λ z. (ctr_taken _ _ _ _ run.number z).size) run.run }

@@ -1,0 +1,20 @@
+-- The groups before `at` are written; those from there on still stand in the destination, and make the rest.
+-- Assumes nothing.
+use mathlib.Core.Path.{◌≡◌, refl, sym, ap, ◌∙◌}
+use mathlib.Core.List.{List}
+use Prim.Native.Nat.{ℕ, ◌+◌, ◌-◌, ◌*◌, ◌≤◌, ◌<◌, ◌%◌}
+use native.Mathlib.Omega.{arith}
+use lib.ListN.{length, take, drop}
+use borrow.Author.Rules.{rules}
+use Rattle.forms.specs.Lists.{when}
+use Rattle.forms.proofs.Parts.{part_length}
+use Rattle.forms.proofs.EachBlock.{Kept, kept_first, kept_last, read_length}
+use Rattle.labyrinth.specs.Groups.{wide_lent}
+use Rattle.groups.proofs.Turns.{group_start, group_next}
+use Rattle.groups.proofs.each_group.Given as goal
+
+abbrev pub invariant-loop-at : goal.invariant-loop-at
+invariant-loop-at l = (l.at % 64 ≡ 0) × Kept (wide_lent l.n l.t l.s l.u l.ks) (16 * l.n) (when l.own l.initial.dst l.src) l.mask l.initial.dst l.dst l.at
+
+abbrev pub decreases-loop-at : goal.decreases-loop-at
+decreases-loop-at l = length l.src - l.at

@@ -1,0 +1,19 @@
+-- The first i words are put, and the others still stand.
+-- Assumes nothing.
+use mathlib.Core.Path.{◌≡◌, refl, ap, ◌∙◌}
+use mathlib.Core.List.{◌++◌}
+use Prim.Native.Nat.{ℕ, ◌+◌, ◌-◌, ◌*◌, ◌≤◌}
+use native.Mathlib.Omega.{arith}
+use lib.Bits.{bit_xor}
+use lib.ListN.{length, get_or, take, drop}
+use borrow.Author.Rules.{rules}
+use Rattle.forms.specs.Words.{bytes}
+use Rattle.forms.specs.Strings.{xor_bytes}
+use Rattle.groups.proofs.Words.{put_more, put_all}
+use Rattle.groups.proofs.put_words.Given as goal
+
+abbrev pub invariant-loop-i : goal.invariant-loop-i
+invariant-loop-i l = (l.i ≤ 8) × (length l.dst ≡ length l.initial.dst) × (l.dst ≡ take (8 * l.i) (xor_bytes (bytes 8 l.x) l.mask) ++ drop (8 * l.i) l.initial.dst)
+
+abbrev pub decreases-loop-i : goal.decreases-loop-i
+decreases-loop-i l = 8 - l.i
