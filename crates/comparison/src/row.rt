@@ -6,30 +6,31 @@
 ghost use Rattle.std.specs.Prelude.{◌≡◌, ◌≤◌, length};
 
 use crate::printing;
+use std::io;
 
-fn print_mixed(g: [u8; 8], w: u64) {
+fn print_mixed(rt: &impl Print, g: [u8; 8], w: u64) -> io::Result<()> {
     let m = rows::mix(g, w);
-    printing::number(b"mix ", m.number as u64);
-    printing::word(m.word);
+    print!(rt; "mix {}", m.number)?;
+    printing::word(rt, m.word)
 }
 
-fn print_row(g: &[u8; 8]) {
-    printing::bytes(g);
+fn print_row(rt: &impl Print, g: &[u8; 8]) -> io::Result<()> {
+    printing::bytes(rt, g)
 }
 
-fn print_product(g: [u8; 8], h: [u8; 8]) {
+fn print_product(rt: &impl Print, g: [u8; 8], h: [u8; 8]) -> io::Result<()> {
     let row = rows::product(g, h);
-    printing::text(b"product");
-    print_row(&row);
+    print!(rt; "product")?;
+    print_row(rt, &row)
 }
 
-fn print_inverse(g: [u8; 8]) {
+fn print_inverse(rt: &impl Print, g: [u8; 8]) -> io::Result<()> {
     let x = rows::inverse(g);
     let row = x.row;
-    printing::number(b"inverse ", x.number as u64);
-    print_row(&row);
+    print!(rt; "inverse {}", x.number)?;
+    print_row(rt, &row)?;
     let one = rows::product(g, row);
-    print_row(&one);
+    print_row(rt, &one)
 }
 
 // A buffer whose words are told apart.
@@ -37,34 +38,34 @@ fn marked() -> [u64; 257]
     ensures { length result ≡ 257 }
 {
     let mut r = [0u64; 257];
-    let mut i = 0usize;
-    while i < 257 {
+    for i in 0..257usize {
         r[i] = 0x5A5A5A5A5A5A0000 + i as u64;
-        i += 1;
     }
     r
 }
 
-fn print_table(g: [u8; 8], room: usize)
+fn print_table(rt: &impl Print, g: [u8; 8], room: usize) -> io::Result<()>
     requires { room ≤ 257 }
 {
     let mut space = marked();
     let table = &mut space[0..room];
     let number = rows::make_table(g, table);
-    printing::number(b"table ", number as u64);
-    printing::words(table);
+    print!(rt; "table {number}")?;
+    printing::words(rt, table)
 }
 
-pub fn print_case(kind: u8, case: &[u8]) {
+pub fn print_case(rt: &impl Print, kind: u8, case: &[u8]) -> io::Result<()> {
     let g = rows::row_of(buffers::load_word(case, 0));
     let more = buffers::load_word(case, 8);
     if kind == 3 {
-        print_mixed(g, more);
+        print_mixed(rt, g, more)
     } else if kind == 5 {
-        print_product(g, rows::row_of(more));
+        print_product(rt, g, rows::row_of(more))
     } else if kind == 6 {
-        print_inverse(g);
+        print_inverse(rt, g)
     } else if more <= 257 {
-        print_table(g, more as usize);
+        print_table(rt, g, more as usize)
+    } else {
+        Ok(())
     }
 }

@@ -5,13 +5,14 @@ ghost use Rattle.std.specs.Prelude.{◌≡◌, length};
 
 use crate::{printing, reading};
 use labyrinth::WorkingKey;
+use std::io;
 use tape_rules::Tape;
 
-fn print_mark(mark: bool) {
+fn print_mark(rt: &impl Print, mark: bool) -> io::Result<()> {
     if mark {
-        printing::text(b" 1");
+        print!(rt; " 1")
     } else {
-        printing::text(b" 0");
+        print!(rt; " 0")
     }
 }
 
@@ -36,12 +37,11 @@ fn begin(t: Tape, case: &[u8]) -> Tape {
     t
 }
 
-fn print_next(t: Tape) {
+fn print_next(rt: &impl Print, t: Tape) -> io::Result<()> {
     let k = t.key;
-    printing::number(b" ", k.n as u64);
-    printing::number(b" ", k.set as u64);
-    print_mark(t.keyed);
-    print_mark(t.ended);
+    print!(rt; " {} {}", k.n, k.set)?;
+    print_mark(rt, t.keyed)?;
+    print_mark(rt, t.ended)
 }
 
 fn space() -> [u8; 256]
@@ -50,15 +50,13 @@ fn space() -> [u8; 256]
     [0xAA; 256]
 }
 
-pub fn print_step(t: Tape, case: &[u8]) -> Tape {
+pub fn print_step(rt: &impl Print, t: Tape, case: &[u8]) -> io::Result<Tape> {
     let mut buffer = space();
     let answer = reading::front(&mut buffer, reading::byte_at(case, 3) as usize);
     let s = tape::step(begin(t, case), reading::part(case, 4, case.len()), answer);
     let next = s.next;
-    printing::number(b"step ", s.number as u64);
-    printing::number(b" ", s.taken as u64);
-    printing::number(b" ", s.written as u64);
-    print_next(next);
-    printing::bytes(answer);
-    next
+    print!(rt; "step {} {} {}", s.number, s.taken, s.written)?;
+    print_next(rt, next)?;
+    printing::bytes(rt, answer)?;
+    Ok(next)
 }

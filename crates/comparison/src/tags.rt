@@ -6,6 +6,7 @@ ghost use Rattle.std.specs.Prelude.{◌<◌};
 
 use crate::{given, printing, reading};
 use labyrinth::WorkingKey;
+use std::io;
 
 // What verifying answers, in two digits.
 fn verified(k: WorkingKey, message: &[u8], tag: &[u8]) -> u8 {
@@ -22,44 +23,55 @@ fn flipped(b: u8, bit: usize) -> u8
 }
 
 // The answer to a tag with bit i of it flipped, if it has that.
-fn print_flip(k: WorkingKey, message: &[u8], tag: &[u8], i: usize) {
+fn print_flip(
+    rt: &impl Print,
+    k: WorkingKey,
+    message: &[u8],
+    tag: &[u8],
+    i: usize,
+) -> io::Result<()> {
     let at = i / 8;
     let mut space = given::space();
     let other = reading::front(&mut space, tag.len());
     strings::copy_into(other, tag);
     if at < other.len() {
         other[at] = flipped(other[at], i % 8);
-        printing::byte(verified(k, message, other));
+        let digits = verified(k, message, other);
+        print!(rt; "{digits:02x}")?;
     }
+    Ok(())
 }
 
-fn print_flips(k: WorkingKey, message: &[u8], tag: &[u8]) {
-    let mut i = 0usize;
-    while i < 128 {
-        print_flip(k, message, tag, i);
-        i += 1;
+fn print_flips(rt: &impl Print, k: WorkingKey, message: &[u8], tag: &[u8]) -> io::Result<()> {
+    for i in 0..128 {
+        print_flip(rt, k, message, tag, i)?;
     }
+    Ok(())
 }
 
-fn print_made(k: WorkingKey, message: &[u8], dst: &mut [u8]) {
+fn print_made(rt: &impl Print, k: WorkingKey, message: &[u8], dst: &mut [u8]) -> io::Result<()> {
     let number = cmac::make(stores::fresh(), k, message, dst);
-    printing::answer(b"cmac make ", number, dst);
+    printing::answer(rt, "cmac make", number, dst)
 }
 
-fn print_verified(k: WorkingKey, message: &[u8], tag: &[u8]) {
-    printing::text(b"cmac verify ");
-    printing::byte(verified(k, message, tag));
-    printing::text(b" ");
-    print_flips(k, message, tag);
+fn print_verified(rt: &impl Print, k: WorkingKey, message: &[u8], tag: &[u8]) -> io::Result<()> {
+    let digits = verified(k, message, tag);
+    print!(rt; "cmac verify {digits:02x} ")?;
+    print_flips(rt, k, message, tag)
 }
 
-pub fn print_case(kind: u8, case: &[u8]) {
+pub fn print_case(rt: &impl Print, kind: u8, case: &[u8]) -> io::Result<()> {
     let k = given::working_key(case);
     let message = given::source(case);
     if kind == 15 {
         let mut space = given::space();
-        print_made(k, message, reading::front(&mut space, given::room(case)));
+        print_made(
+            rt,
+            k,
+            message,
+            reading::front(&mut space, given::room(case)),
+        )
     } else {
-        print_verified(k, message, given::start(case));
+        print_verified(rt, k, message, given::start(case))
     }
 }

@@ -4,41 +4,36 @@
 // error, and nothing behind it is judged.
 #![tactic(auto)]
 
-use libc::{STDERR_FILENO, STDIN_FILENO, STDOUT_FILENO};
+ghost use Rattle.std.specs.Prelude.{◌≡◌, ◌<◌, ◌≤◌, length, take, IfOk};
+ghost use Rattle.std.specs.Io.KnownBytes.{Consumes, IsAtEnd};
 
-fn print_row(g: [u8; 8]) {
-    let mut i = 0usize;
-    while i < 8 {
-        io::print_hex(STDOUT_FILENO, g[i] as u64, 2);
-        i += 1;
+use std::io;
+use std::io::Read;
+
+fn print_row(rt: &impl Print, g: [u8; 8]) -> io::Result<()> {
+    for coefficient in g {
+        print!(rt; "{coefficient:02x}")?;
     }
-}
-
-fn print_count(name: &[u8], n: u64) {
-    io::write_all(STDOUT_FILENO, name);
-    io::print_decimal(STDOUT_FILENO, n);
+    Ok(())
 }
 
 // The word that falls short, and its counts.
-fn print_word(g: [u8; 8], w: u64) {
-    let before = counts::active_bytes(w) as u64;
-    let after = counts::active_bytes(row_mixing::mix_row(g, w)) as u64;
-    io::write_all(STDOUT_FILENO, b" no ");
-    io::print_hex(STDOUT_FILENO, w, 16);
-    print_count(b" before ", before);
-    print_count(b" after ", after);
-    print_count(b" together ", before + after);
+fn print_word(rt: &impl Print, g: [u8; 8], w: u64) -> io::Result<()> {
+    let before = u64::from(counts::active_bytes(w));
+    let after = u64::from(counts::active_bytes(row_mixing::mix_row(g, w)));
+    let together = before + after;
+    print!(rt; " no {w:016x} before {before} after {after} together {together}")
 }
 
-fn print_verdict(g: [u8; 8]) {
-    print_row(g);
+fn print_verdict(rt: &impl Print, g: [u8; 8]) -> io::Result<()> {
+    print_row(rt, g)?;
     let v = judge::judge(g);
     if v.yes {
-        io::write_all(STDOUT_FILENO, b" yes");
+        print!(rt; " yes")?;
     } else {
-        print_word(g, v.word);
+        print_word(rt, g, v.word)?;
     }
-    io::write_all(STDOUT_FILENO, b"\n");
+    println!(rt)
 }
 
 // What a byte of the text is: below 16 that digit, 16 for what is passed over, 17 for anything else.
@@ -83,62 +78,78 @@ struct Text {
 }
 
 // A byte more; with the sixteenth digit the row is judged.
-fn take(t: Text, b: u8) -> Text {
+fn take(rt: &impl Print, t: Text, b: u8) -> io::Result<Text> {
     let d = digit(b);
     if t.wrong || d == 16 {
-        return t;
+        return Ok(t);
     }
     let word = (t.word << 4) | d as u64;
     let digits = t.digits % 16 + 1;
     if d == 17 || digits < 16 {
-        return Text {
-            word: word,
-            digits: digits,
+        return Ok(Text {
+            word,
+            digits,
             judged: t.judged,
             wrong: d == 17,
-        };
+        });
     }
-    print_verdict(row_of_digits(word));
-    Text {
+    print_verdict(rt, row_of_digits(word))?;
+    Ok(Text {
         word: 0,
         digits: 0,
         judged: true,
         wrong: false,
-    }
+    })
 }
 
 // Judges the rows of a text.
-fn judge_rows(text: &[u8]) -> Text {
+fn judge_rows(rt: &impl Print, text: &[u8]) -> io::Result<Text> {
     let mut t = Text {
         word: 0,
         digits: 0,
         judged: false,
         wrong: false,
     };
-    let mut at = 0usize;
-    while at < text.len() {
-        let next = take(t, text[at]);
-        t = next;
-        at += 1;
+    for b in text {
+        t = take(rt, t, *b)?;
     }
-    t
+    Ok(t)
 }
 
-// Of a text of 65,536 bytes or more the first so many are read.
-fn main() {
-    let mut space = io::large_buffer();
-    let got = io::read_full(STDIN_FILENO, &mut space);
-    let t = judge_rows(&space[..got]);
+// Room for a text.
+fn blank() -> [u8; 65536]
+    ensures { 65536 ≡ length result }
+{
+    [0; 65536]
+}
+
+// Reads until the buffer is full, the input ends or a read fails, and says how many bytes were read.
+fn read_text<R: Read>(input: &mut R, text: &mut [u8]) -> io::Result<usize>
+    ensures bound { IfOk result (λ count. count ≤ length text.new) }
+    ensures bytes { IfOk result (λ count. Consumes (R.remaining input.old) (R.remaining input.new) (take count text.new)) }
+    ensures end { IfOk result (λ count. count < length text.new → IsAtEnd (R.remaining input.new)) }
+{
+    let mut at = 0usize;
+    while at < text.len() {
+        let more = input.read(&mut text[at..])?;
+        if more == 0 {
+            break;
+        }
+        at += more;
+    }
+    Ok(at)
+}
+
+// Of a text of 65,536 bytes or more the first so many are read. A read or a write that fails ends the program with its error.
+fn main(rt: HostRuntime) -> io::Result<()> {
+    let mut space = blank();
+    let got = read_text(&mut rt.stdin(), &mut space)?;
+    let t = judge_rows(&rt, &space[..got])?;
     if t.wrong || t.digits != 0 || !t.judged {
-        io::write_all(
-            STDERR_FILENO,
-            b"judge_row: a row is sixteen hexadecimal digits\n",
-        );
+        eprintln!(rt; "judge_row: a row is sixteen hexadecimal digits")?;
     }
     if got == 65536 {
-        io::write_all(
-            STDERR_FILENO,
-            b"judge_row: nothing behind 65536 bytes is read\n",
-        );
+        eprintln!(rt; "judge_row: nothing behind 65536 bytes is read")?;
     }
+    Ok(())
 }

@@ -1,6 +1,6 @@
 -- Words of a key that is passed by value.
 -- Assumes nothing.
-use mathlib.Core.List.{List, [], ◌∷◌, map}
+use mathlib.Core.List.{List, [], ◌∷◌}
 use Prim.Native.Nat.{ℕ, zero, suc}
 use native.Mathlib.Omega.{arith}
 use mir.Val.{Val}
@@ -10,7 +10,7 @@ use denote.Shadow.{shadow}
 use Rattle.forms.proofs.Bytes.{Small}
 
 -- each element of a record's array of words is one
-pub words_small : (ws : List ℕ) (vs : List Val) → shadow (each ℕ u64.own_val (map (λ (w : ℕ). w) ws) vs) → Small ws
+pub words_small : (ws : List ℕ) (vs : List Val) → shadow (each ℕ u64.own_val ws vs) → Small ws
 words_small [] vs h i = omega arith
 words_small (w ∷ ws) [] h i = absurd h
 words_small (w ∷ ws) (v ∷ vs) h zero = h.0.1

@@ -2,9 +2,11 @@
 // it writes nothing there and says so on standard error; if the answers cannot be written it says that.
 #![tactic(auto)]
 
-ghost use Rattle.std.specs.Prelude.{◌≡◌, ◌≤◌, length};
+ghost use Rattle.std.specs.Prelude.{◌≡◌, ◌<◌, ◌≤◌, length, take, IfOk};
+ghost use Rattle.std.specs.Io.KnownBytes.{Consumes, IsAtEnd};
 
-use libc::{STDERR_FILENO, STDIN_FILENO, STDOUT_FILENO};
+use std::io;
+use std::io::Read;
 
 // Room for a tape and one byte more, by which a longer one is noticed; the answers need as much.
 fn blank() -> [u8; 65537]
@@ -13,50 +15,33 @@ fn blank() -> [u8; 65537]
     [0; 65537]
 }
 
-// What was read: how many bytes, and whether a read failed.
-#[derive(Drop)]
-struct Input {
-    length: usize,
-    failed: bool,
-}
-
-// Reads until the buffer is full, the input ends or a read fails.
-fn read_tape(tape: &mut [u8]) -> Input
-    ensures { result.length ≤ length tape.new }
+// Reads until the buffer is full, the input ends or a read fails, and says how many bytes were read.
+fn read_tape<R: Read>(input: &mut R, tape: &mut [u8]) -> io::Result<usize>
+    ensures bound { IfOk result (λ count. count ≤ length tape.new) }
+    ensures bytes { IfOk result (λ count. Consumes (R.remaining input.old) (R.remaining input.new) (take count tape.new)) }
+    ensures end { IfOk result (λ count. count < length tape.new → IsAtEnd (R.remaining input.new)) }
 {
     let mut at = 0usize;
     while at < tape.len() {
-        let got = libc::read(STDIN_FILENO, &mut tape[at..]);
-        let more = io::count(got, &tape[at..]);
+        let more = input.read(&mut tape[at..])?;
         if more == 0 {
-            return Input {
-                length: at,
-                failed: got < 0,
-            };
+            break;
         }
         at += more;
     }
-    Input {
-        length: at,
-        failed: false,
-    }
+    Ok(at)
 }
 
-fn main() {
+fn main(rt: HostRuntime) -> io::Result<()> {
     let mut tape = blank();
-    let input = read_tape(&mut tape);
-    if input.failed {
-        io::write_all(STDERR_FILENO, b"tape_program: the tape cannot be read\n");
-        return;
-    }
+    let Ok(length) = read_tape(&mut rt.stdin(), &mut tape) else {
+        return eprintln!(rt; "tape_program: the tape cannot be read");
+    };
     let mut answers = blank();
-    let length = input.length;
     let done = tape_run::run(&tape[..length], &mut answers);
     let written = done.length;
-    if !io::write_all(STDOUT_FILENO, &answers[..written]) {
-        io::write_all(
-            STDERR_FILENO,
-            b"tape_program: the answers cannot be written\n",
-        );
+    if rt.stdout().write_all(&answers[..written]).is_err() {
+        return eprintln!(rt; "tape_program: the answers cannot be written");
     }
+    Ok(())
 }

@@ -1,0 +1,31 @@
+-- The lengths of the records refused, or the set that the key names.
+-- Assumes nothing.
+use mathlib.Core.Path.{ap}
+use mathlib.Core.Bool.{not}
+use mathlib.Core.List.{List}
+use Prim.Native.Nat.{ℕ}
+use lib.ListN.{length}
+use borrow.Author.Rules.{rules}
+use Rattle.labyrinth.specs.Cipher.{Parts}
+use Rattle.labyrinth.specs.Keys.{U}
+use Rattle.labyrinth.specs.Refusals.{block_refusal}
+use Rattle.records.specs.Lent.{lent_u}
+use Rattle.records.proofs.Lent.{lent_refused, lent_named}
+use Rattle.blocks_c.proofs.labyrinth_key_decipher_by_matrix.Goals as goal
+use Rattle.blocks_c.proofs.labyrinth_key_decipher_by_matrix.Goals.{Start}
+
+-- the operation's number by n, and its result by the parts, n and the words of a key
+abbrev number : Start → ℕ → ℕ
+number s = let a = s.args in λ n. block_refusal n (length a.src.now) (length a.dst.now)
+
+abbrev result : Start → Parts → ℕ → List ℕ → List ℕ
+result s = let a = s.args in λ p n ws. U p n ws a.src.now
+
+pub returns-then-not-fit : goal.returns-then-not-fit
+unfolding lent_u
+returns-then-not-fit c = let both = lent_refused c.args.store.now c.args.working.now (number (goal.at.returns-then-not-fit c).Start) (result (goal.at.returns-then-not-fit c).Start) c.args.dst.now c.fit.ensures (ap not c.if-not-fit.true) in record { number = both.0; block = both.1 }
+
+pub returns : goal.returns
+unfolding lent_u
+returns c = let both = lent_named c.args.store.now c.args.working.now (number (goal.at.returns c).Start) (result (goal.at.returns c).Start) c.args.dst.now c.fit.ensures (ap not c.if-not-fit.false) c.key_of-k.ensures
+    c.store_of.ensures (c.decipher_by_matrix.ensures.number, c.decipher_by_matrix.ensures.block) in record { number = both.0; block = both.1 }

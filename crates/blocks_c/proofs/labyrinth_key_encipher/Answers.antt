@@ -1,0 +1,37 @@
+-- The lengths of the records refused, set 0 without the store, or the set that the key names.
+-- Assumes nothing.
+use mathlib.Core.Path.{ap}
+use mathlib.Core.Bool.{not}
+use mathlib.Core.List.{List}
+use Prim.Native.Nat.{ℕ}
+use lib.ListN.{length}
+use borrow.Author.Rules.{rules}
+use Rattle.labyrinth.specs.Cipher.{Parts}
+use Rattle.labyrinth.specs.Keys.{E}
+use Rattle.labyrinth.specs.Refusals.{block_refusal}
+use Rattle.labyrinth.proofs.Refusals.{block_one}
+use Rattle.records.specs.Lent.{lent_e}
+use Rattle.records.proofs.Lent.{lent_refused, lent_named, lent_published}
+use Rattle.blocks_c.proofs.labyrinth_key_encipher.Goals as goal
+use Rattle.blocks_c.proofs.labyrinth_key_encipher.Goals.{Start}
+
+-- the operation's number by n, and its result by the parts, n and the words of a key
+abbrev number : Start → ℕ → ℕ
+number s = let a = s.args in λ n. block_refusal n (length a.src.now) (length a.dst.now)
+
+abbrev result : Start → Parts → ℕ → List ℕ → List ℕ
+result s = let a = s.args in λ p n ws. E p n ws a.src.now
+
+pub returns-then-not-fit : goal.returns-then-not-fit
+unfolding lent_e
+returns-then-not-fit c = let both = lent_refused c.args.store.now c.args.working.now (number (goal.at.returns-then-not-fit c).Start) (result (goal.at.returns-then-not-fit c).Start) c.args.dst.now c.fit.ensures (ap not c.if-not-fit.true) in record { number = both.0; block = both.1 }
+
+pub returns-then-k-eq0 : goal.returns-then-k-eq0
+unfolding lent_e
+returns-then-k-eq0 c = let both = lent_published c.args.store.now c.args.working.now (number (goal.at.returns-then-k-eq0 c).Start) (result (goal.at.returns-then-k-eq0 c).Start) c.args.dst.now c.fit.ensures (ap not c.if-not-fit.false) c.key_of-k.ensures
+    c.if-k-eq0.true (block_one _ (length c.args.src.now) (length c.args.dst.now)) (c.encipher_published.ensures.number, c.encipher_published.ensures.block) in record { number = both.0; block = both.1 }
+
+pub returns : goal.returns
+unfolding lent_e
+returns c = let both = lent_named c.args.store.now c.args.working.now (number (goal.at.returns c).Start) (result (goal.at.returns c).Start) c.args.dst.now c.fit.ensures (ap not c.if-not-fit.false) c.key_of-k.ensures
+    c.store_of.ensures (c.encipher_by_table.ensures.number, c.encipher_by_table.ensures.block) in record { number = both.0; block = both.1 }

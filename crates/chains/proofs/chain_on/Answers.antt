@@ -1,0 +1,15 @@
+-- A refusal leaves the block before the first; else every block is chained, and none is written.
+-- Assumes nothing.
+use mathlib.Core.Bool.{false≢true}
+use borrow.Author.Rules.{rules}
+use Rattle.forms.proofs.Refusals.{refused_keeps}
+use Rattle.chains.proofs.Refusals.{chain_taken}
+use Rattle.chains.proofs.chain_on.Goals as goal
+
+pub returns-then-number-ne0 : goal.returns-then-number-ne0
+returns-then-number-ne0 c = record { number = c.chain_refusal-number.ensures; last = refused_keeps _ _ _ c.if-number-ne0.true }
+
+pub linked-requires : goal.linked-requires
+linked-requires c =
+    let k = chain_taken _ _ _ _ c.chain_refusal-number.ensures c.if-number-ne0.false in
+    (k.size, k.start, k.whole, λ e. absurd (false≢true e))

@@ -1,0 +1,26 @@
+-- Expansion's number, or the operation under the key that it gave.
+-- Assumes nothing.
+use mathlib.Core.List.{List}
+use Prim.Native.Nat.{ℕ, ◌*◌}
+use lib.ListN.{length}
+use borrow.Author.Rules.{rules}
+use Rattle.labyrinth.specs.Cipher.{article}
+use Rattle.labyrinth.specs.Keys.{E}
+use Rattle.modes.specs.Cbc.{cbc_seal}
+use Rattle.modes.specs.Refusals.{cbc_refusal}
+use Rattle.one_shot.proofs.OneShot.{key_refused, key_passed}
+use Rattle.labyrinth_c.proofs.labyrinth_cbc_seal.Goals as goal
+use Rattle.labyrinth_c.proofs.labyrinth_cbc_seal.Goals.{Start}
+
+-- the operation's number and result, by the size and the words of a key
+abbrev number : Start → ℕ → ℕ
+number s = let a = s.args in λ m. cbc_refusal m (length a.start.now) (length a.src.now) (length a.dst.now)
+
+abbrev result : Start → ℕ → List ℕ → List ℕ
+result s = let a = s.args in λ m ws. cbc_seal (E article m ws) (16 * m) a.start.now a.src.now
+
+pub returns-then-x-ne0 : goal.returns-then-x-ne0
+returns-then-x-ne0 c = let both = key_refused c.args.n c.args.l c.args.key.now (number (goal.at.returns-then-x-ne0 c).Start) (result (goal.at.returns-then-x-ne0 c).Start) c.args.dst.now c.expand_published-x.ensures c.if-x-ne0.true in record { number = both.0; run = both.1 }
+
+pub returns : goal.returns
+returns c = let both = key_passed c.args.n c.args.l c.args.key.now (number (goal.at.returns c).Start) (result (goal.at.returns c).Start) c.args.dst.now c.expand_published-x.ensures c.if-x-ne0.false (c.seal_published.ensures.number, c.seal_published.ensures.run) in record { number = both.0; run = both.1 }
