@@ -1,0 +1,27 @@
+-- What is prepared gives U.
+-- Assumes nothing.
+use mathlib.Core.Bool.{true}
+use mathlib.Core.List.{List}
+use Prim.Native.Nat.{ℕ, ◌*◌}
+use borrow.Author.Rules.{rules}
+use Rattle.labyrinth.specs.Lent.{ArticlePrepared}
+use Rattle.labyrinth.proofs.Lent.{article_run_by_one}
+use Rattle.modes.specs.Cbc.{cbc_open}
+use Rattle.modes.proofs.Refusals.{cbc_taken}
+use Rattle.cbc_in_place.proofs.open_published.Goals as goal
+use Rattle.cbc_in_place.proofs.open_published.Goals.{After-schedule-ks}
+
+-- what is prepared
+made : (c : After-schedule-ks) → let k = c.args.k in ArticlePrepared true k.n k.words c.table-t.result c.substitution-s.result c.inverse-u.result c.schedule-ks.result
+made c = record {
+  table = c.table-t.ensures;
+  substitution = c.substitution-s.ensures;
+  inverse = c.inverse-u.ensures;
+  subkeys = c.schedule-ks.ensures;
+}
+
+pub returns : goal.returns
+returns c =
+    let a = c.args in
+    let run = c.open_lent.ensures in
+    record { number = run.number; run = article_run_by_one (made (goal.at.returns c).After-schedule-ks) (λ (m : List ℕ → List ℕ). cbc_open m (16 * a.k.n) a.start.now a.d.now) a.d.now (λ z. (cbc_taken _ _ _ _ run.number z).size) run.run }

@@ -1,0 +1,21 @@
+-- After i turns the words below i of both halves are there.
+-- Assumes nothing.
+use Rattle.std.proofs.Common.{◌≡◌, ℕ, ◌+◌, ◌-◌, ◌%◌, ◌<◌, ◌≤◌, refl, arith, rules}
+use Rattle.forms.proofs.Lists.{Replaced, replaced_none, replaced_more, replaced_all}
+use Rattle.group_transforms.proofs.Ends.{imixed}
+use Rattle.group_transforms.proofs.imix.Goals as goal
+
+pub loop-i-init : goal.loop-i-init
+loop-i-init c = (omega arith, replaced_none _ _, replaced_none _ _)
+
+pub loop-i-preserved : goal.loop-i-preserved
+loop-i-preserved c =
+    let v = c.loop-i in
+    let h : v.i < 4 = omega arith in
+    (omega arith, replaced_more _ _ v.i h refl v.invariant.1, replaced_more _ _ v.i h refl v.invariant.2)
+
+pub returns : goal.returns
+returns c =
+    let v = c.loop-i in
+    let e : v.i ≡ 4 = omega arith in
+    imixed c.args.n c.requires c.args.l c.args.r c.sigma-d.ensures (replaced_all _ _ e refl v.invariant.1) (replaced_all _ _ e refl v.invariant.2)

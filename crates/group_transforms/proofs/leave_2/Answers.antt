@@ -1,0 +1,12 @@
+-- IMix of each block, its words as in memory, and those unkeyed.
+-- Assumes nothing.
+use Rattle.std.proofs.Common.{rules}
+use Rattle.labyrinth.specs.Groups.{spaced_sub}
+use Rattle.labyrinth.proofs.Sizes.{size_two}
+use Rattle.group_transforms.proofs.Ends.{left}
+use Rattle.group_transforms.proofs.leave_2.Goals as goal
+
+pub returns : goal.returns
+returns c =
+    let a = c.args in
+    left (spaced_sub a.u.now) 2 size_two a.ks.now a.h c.imix.ensures c.laid.ensures c.unkeyed_2.ensures
