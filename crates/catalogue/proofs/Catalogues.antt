@@ -4,7 +4,7 @@ use mathlib.Core.Path.{◌≡◌, refl, sym, ap, ap₂, ◌∙◌}
 use mathlib.Core.Bool.{Bool, true, false, ◌&&◌, false≢true}
 use mathlib.Core.List.{List, []}
 use mathlib.Core.Logic.{inl, inr}
-use Prim.Native.Nat.{ℕ, zero, suc, ◌+◌, ◌-◌, ◌*◌, ◌≤◌, ◌<◌}
+use Prim.Native.Nat.{ℕ, suc, ◌+◌, ◌-◌, ◌*◌, ◌≤◌, ◌<◌}
 use native.Mathlib.Nat.{zero-add}
 use native.Mathlib.Omega.{arith}
 use lib.Dec.{eqb}
@@ -14,7 +14,7 @@ use Rattle.forms.specs.Lists.{when}
 use Rattle.forms.specs.Refusals.{Unless}
 use Rattle.forms.proofs.Booleans.{and_both, by_test}
 use Rattle.catalogue.specs.declared.Entry.{Entry}
-use Rattle.pages.specs.Pages.{begins, four_byte_number, times15, behind10, behind11, behind12, behind13, blocks, behind15, headed, ended, is_record, parts, Alike}
+use Rattle.pages.specs.Pages.{begins, four_byte_number, times15, behind10, behind11, behind12, blocks, behind15, headed, ended, is_record, parts, Alike}
 use Rattle.catalogue.specs.Catalogue.{entry, title_part}
 use Rattle.pages.proofs.Commands.{begins_iff, times_most, times_yes, times_no}
 use Rattle.pages.proofs.Layouts.{record_title, record_length_lem}

@@ -19,8 +19,8 @@ use Rattle.forms.proofs.Words.{join_lt, join_byte, join_cong}
 use Rattle.forms.proofs.Bytes.{Bytes, Small, length_bytes, get_or_bytes}
 use Rattle.forms.proofs.Strings.{length_xor_bytes}
 use Rattle.labyrinth.specs.Blocks.{Block, load, store}
-use Rattle.labyrinth.specs.Working.{eight_tables, lookup_in}
-use Rattle.labyrinth.specs.Groups.{in_memory, lookup_four, spaced, spaced_sub, leave_by, line_by, four_lent, wide_lent}
+use Rattle.labyrinth.specs.Working.{eight_tables}
+use Rattle.labyrinth.specs.Groups.{in_memory, lookup_four, spaced, spaced_sub, line_by, four_lent, wide_lent}
 use Rattle.labyrinth.specs.Lent.{lent}
 use Rattle.labyrinth.proofs.Rounds.{Sized}
 use Rattle.labyrinth.proofs.Spaced.{leave_sized}

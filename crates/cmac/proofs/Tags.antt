@@ -1,13 +1,13 @@
 -- What the two operations answer, out of the last block of the chain.
 -- Assumes nothing.
-use mathlib.Core.Path.{◌≡◌, refl, sym, ap, ap₂, ◌∙◌}
+use mathlib.Core.Path.{◌≡◌, refl, sym, ap, ◌∙◌}
 use mathlib.Core.Bool.{Bool, false}
-use mathlib.Core.List.{List, ◌++◌, append-nil}
+use mathlib.Core.List.{List}
 use Prim.Native.Nat.{ℕ, zero, suc, ◌≤◌}
 use native.Mathlib.Omega.{arith}
 use borrow.Author.Tests.{ne_eqb}
 use lib.Dec.{eqb}
-use lib.ListN.{length, take, drop, drop_of_length-le}
+use lib.ListN.{length, take}
 use Rattle.forms.specs.Refusals.{outcome}
 use Rattle.forms.specs.Strings.{same}
 use Rattle.labyrinth.specs.Cipher.{Parts, article}
@@ -21,7 +21,7 @@ use Rattle.modes.specs.Cmac.{mac, tag, valid}
 use Rattle.modes.specs.Refusals.{cmac_refusal}
 use Rattle.modes.proofs.Refusals.{cmac_one}
 use Rattle.modes.proofs.Maps.{Keeps}
-use Rattle.modes.proofs.Cmac.{length_mac, made_valid}
+use Rattle.modes.proofs.Cmac.{made_valid}
 use Rattle.cmac.specs.declared.Verified.{Verified}
 use Rattle.cmac.specs.Verification.{verification}
 

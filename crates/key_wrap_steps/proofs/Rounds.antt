@@ -2,12 +2,11 @@
 -- from there on, and then those before it. What a round keeps, a turn of it, and six rounds.
 -- Assumes nothing.
 use mathlib.Core.Path.{◌≡◌, refl, sym, ap, ap₂, ◌∙◌}
-use mathlib.Core.List.{List, [], ◌++◌, append-nil, append_assoc}
+use mathlib.Core.List.{List, ◌++◌, append-nil, append_assoc}
 use Prim.Native.Nat.{ℕ, zero, suc, ◌+◌, ◌-◌, ◌*◌, ◌/◌, ◌%◌, ◌≤◌, ◌<◌}
 use native.Mathlib.Nat.{add-mul, zero-mul, mul-le-mul_right}
-use native.Mathlib.Numerals.{add-one}
 use native.Mathlib.Omega.{arith}
-use lib.ListN.{length, take, drop, length-append, length-drop, take-append-drop, drop_of_length-le}
+use lib.ListN.{length, take, drop, length-append, take-append-drop, drop_of_length-le}
 use lib.Seq.{take_at, drop_at, take_all, take-add, drop-drop, length-take-le}
 use Rattle.forms.specs.Strings.{xor_bytes, string}
 use Rattle.modes.specs.KeyWrap.{steps, wrap_step, wrap_steps, W, unwrap_step, unwrap_steps, W⁻¹}

@@ -8,10 +8,10 @@ use Prim.Native.Nat.{ℕ, zero, suc, ◌+◌, ◌-◌, ◌*◌, ◌/◌, ◌%◌
 use native.Mathlib.Omega.{arith}
 use lib.ListN.{length, get_or, take, drop}
 use lib.Seq.{get_or-drop, get_or-take}
-use Rattle.forms.specs.Lists.{tabulate, when, words_from}
-use Rattle.forms.specs.Words.{byte, join, words, bytes}
+use Rattle.forms.specs.Lists.{tabulate, words_from}
+use Rattle.forms.specs.Words.{words, bytes}
 use Rattle.forms.specs.Mapped.{map_blocks, each_block}
-use Rattle.forms.proofs.Lists.{length_tabulate, get_d_tabulate, tabulate_cong, tabulated}
+use Rattle.forms.proofs.Lists.{get_d_tabulate, tabulated}
 use Rattle.forms.proofs.Words.{join_cong}
 use Rattle.forms.proofs.Bytes.{get_d_words, length_words}
 use Rattle.labyrinth.specs.declared.Halves.{Halves}

@@ -1,21 +1,19 @@
 -- A page's record is read back to its parts, and what is read is the record of those parts.
 -- Assumes nothing.
-use mathlib.Core.Path.{◌≡◌, refl, sym, ap, ap₂, ◌∙◌, subst}
-use mathlib.Core.Bool.{Bool, true, false, ◌&&◌}
-use mathlib.Core.List.{List, [], ◌∷◌, ◌++◌, append_assoc, append-nil}
-use mathlib.Core.Logic.{◌↔◌}
-use Prim.Native.Nat.{ℕ, zero, suc, ◌+◌, ◌-◌, ◌*◌, ◌/◌, ◌%◌, ◌^◌, ◌≤◌, ◌<◌}
+use mathlib.Core.Path.{◌≡◌, refl, sym, ap, ap₂, ◌∙◌}
+use mathlib.Core.Bool.{true, false, ◌&&◌}
+use mathlib.Core.List.{List, [], ◌++◌, append_assoc, append-nil}
+use Prim.Native.Nat.{ℕ, ◌+◌, ◌-◌, ◌*◌, ◌/◌, ◌%◌, ◌^◌, ◌≤◌, ◌<◌}
 use native.Mathlib.Omega.{arith}
 use borrow.Author.Tests.{eq-eqb, eqb-true}
 use lib.Dec.{eqb}
-use lib.ListN.{length, get_or, take, drop, length-append, length-drop, drop_of_length-le}
+use lib.ListN.{length, take, drop, length-append, length-drop, drop_of_length-le}
 use lib.Seq.{take_at, drop-drop}
 use Rattle.forms.proofs.Bytes.{Bytes, take_bytes, drop_bytes}
 use Rattle.forms.proofs.Booleans.{and_both}
-use Rattle.forms.specs.Strings.{same}
 use Rattle.forms.proofs.Strings.{same_refl, same_eq}
 use Rattle.pages.specs.Pages.{Page, Widths, record_length, command, four_bytes, sealed_commands, front, layout, begins, operand, behind, four_byte_number, times15, sealed_operands, behind10, behind11, behind12, behind13, blocks, behind15, headed, ended, is_record, parts, with_tag, sealed_page, tagged, body}
-use Rattle.pages.proofs.Commands.{begins_iff, begins_other, command_begins, command_operand, command_behind, command_of, operand_length, times_most, times_within, length_sealed_commands, length_sealed_operands, times_commands, operands_commands, drop_commands, commands_operands, length_four_bytes, number_four_bytes, four_bytes_number, number_below}
+use Rattle.pages.proofs.Commands.{begins_iff, begins_other, command_begins, command_operand, command_behind, command_of, operand_length, times_most, times_within, length_sealed_operands, times_commands, operands_commands, drop_commands, commands_operands, length_four_bytes, number_four_bytes, four_bytes_number, number_below}
 
 -- ---- the record with its commands one after another
 

@@ -20,7 +20,7 @@ use Rattle.labyrinth.specs.Refusals.{padded, block_refusal, expand_refusal, unde
 use Rattle.labyrinth.specs.Working.{Taken}
 use Rattle.sets.specs.declared.Store.{Store}
 use Rattle.sets.specs.Sets.{loaded, parts_in}
-use Rattle.labyrinth.proofs.Refusals.{block_number, block_iff, expand_number, key_taken}
+use Rattle.labyrinth.proofs.Refusals.{block_number, block_iff, expand_number}
 use Rattle.labyrinth.proofs.Expansion.{expansion_number, expansion_blank, length_expanded_words, length_padded, padded_zero}
 use Rattle.labyrinth.proofs.Undo.{U_E, E_U}
 use Rattle.labyrinth.proofs.Agree.{article_sound, SameUsed as Used, E_used, U_used}
@@ -42,7 +42,7 @@ use Rattle.tape_rules.proofs.Used.{Alike, step_used}
 use Rattle.tape_run.specs.declared.Answered.{Answered}
 use Rattle.tape_run.specs.Runs.{Ran, returned}
 use Rattle.tape_run.proofs.Runs.{steps_used, run_says}
-use Rattle.promise.specs.Demands.{KeysTaken, BlocksTaken, CbcTaken, CtrTaken, Kept, AnswersKey, AnswersBlock, AnswersCbc, AnswersCtr, AnswersStep, AnswersTape, Expands, Maps, Enciphers, Deciphers, SealsCbc, OpensCbc, RunsCtr, SealedBy, OpenedBy, CountedBy, SealedByBlocks, OpenedByBlocks, CountedByBlocks, SubstitutionUndone, Steps, WorksTape, UnusedWordsZero, SameUsed, AlikeStates, AlikeAnswers, TapesOfUsedWords, EAndUUndo, BlocksComeBack, CbcOpensAgain, CtrOpensAgain, CbcCallsOpen, CtrCallsOpen, MixingOfXor, MixingRotated, MixingEightTimes}
+use Rattle.promise.specs.Demands.{KeysTaken, BlocksTaken, CbcTaken, CtrTaken, Kept, AnswersKey, AnswersBlock, AnswersCbc, AnswersCtr, AnswersStep, AnswersTape, Expands, Maps, SealsCbc, OpensCbc, RunsCtr, SealedBy, OpenedBy, CountedBy, SealedByBlocks, OpenedByBlocks, CountedByBlocks, SubstitutionUndone, Steps, WorksTape, UnusedWordsZero, SameUsed, AlikeStates, AlikeAnswers, TapesOfUsedWords, EAndUUndo, BlocksComeBack, CbcOpensAgain, CtrOpensAgain, CbcCallsOpen, CtrCallsOpen, MixingOfXor, MixingRotated, MixingEightTimes}
 
 -- ---- demand 1
 

@@ -1,10 +1,10 @@
 -- What document 02, Job 8, asks for holds: of key wrapping over any block map with its inverse, and of an operation's answer, from what its contract says.
 -- Assumes nothing.
-use mathlib.Core.Path.{◌≡◌, refl, sym, ap, ap₂, subst, ◌∙◌}
+use mathlib.Core.Path.{◌≡◌, refl, sym, ap, subst, ◌∙◌}
 use mathlib.Core.Bool.{Bool, true, false}
 use mathlib.Core.Logic.{inl, inr, ◌↔◌}
 use mathlib.Core.List.{List}
-use Prim.Native.Nat.{ℕ, ◌+◌}
+use Prim.Native.Nat.{ℕ}
 use native.Mathlib.Omega.{arith}
 use lib.ListN.{length, replicate}
 use Rattle.forms.specs.Lists.{tabulate}
@@ -13,7 +13,7 @@ use Rattle.forms.specs.Strings.{string}
 use Rattle.forms.specs.Refusals.{outcome}
 use Rattle.forms.proofs.Refusals.{unless_four}
 use Rattle.labyrinth.specs.declared.WorkingKey.{WorkingKey}
-use Rattle.labyrinth.specs.Cipher.{Parts, article}
+use Rattle.labyrinth.specs.Cipher.{Parts}
 use Rattle.labyrinth.specs.Keys.{E, U}
 use Rattle.labyrinth.specs.Refusals.{legal}
 use Rattle.labyrinth.proofs.Refusals.{under_zero}
@@ -27,11 +27,11 @@ use Rattle.modes.proofs.Used.{wrapped_used, authentic_used, unwrapped_used}
 use Rattle.sets.specs.declared.Store.{Store}
 use Rattle.sets.specs.Sets.{parts_in, loaded}
 use Rattle.sets.proofs.Sets.{parts_zero, loaded_sound}
-use Rattle.publishers.specs.Calls.{uses, buffer, left, wraps, unwraps, named, used, answer}
+use Rattle.publishers.specs.Calls.{buffer, wraps, unwraps, named, used, answer}
 use Rattle.publishers.specs.Pages.{Bytes, Words, SameSet}
 use Rattle.publishers.proofs.Pages.{zero_same, same_parts, same_buffer, keys_yield, expands_in}
 use Rattle.promise.specs.Demands.{ComesBack}
-use Rattle.promise.specs.Requests.{UnderKey, AnswersUse, WrapsKey, UnwrapsKey, WrapsKeyIn, UnwrapsKeyIn, RightValue, WrapsTaken, UnwrapsTaken, AnswersWrapping, AnswersUnwrapping, AnswersWrappingIn, AnswersUnwrappingIn, MapsBlocks, Undoes, UnwrapsWrapped, KeyUnwraps, KeyTravels, WrappedFrom, AcceptsWrapped, SentBy, AcceptsSent, KeyWrapsAgain, UnwrapsOnce, OneSource, KeyComesBackIn}
+use Rattle.promise.specs.Requests.{AnswersUse, WrapsKey, UnwrapsKey, WrapsKeyIn, UnwrapsKeyIn, RightValue, WrapsTaken, UnwrapsTaken, AnswersWrapping, AnswersUnwrapping, AnswersWrappingIn, AnswersUnwrappingIn, MapsBlocks, Undoes, UnwrapsWrapped, KeyUnwraps, KeyTravels, AcceptsWrapped, SentBy, AcceptsSent, KeyWrapsAgain, UnwrapsOnce, OneSource, KeyComesBackIn}
 use Rattle.promise.proofs.Demands.{kept, UnderUsed, under_alike, under_used}
 use Rattle.promise.proofs.Stores.{at_zero, both_at_zero, under, left_is, expands_as}
 

@@ -3,7 +3,7 @@
 use mathlib.Core.Path.{◌≡◌, refl, sym, ap, ap₂, subst, ◌∙◌}
 use mathlib.Core.Bool.{false}
 use mathlib.Core.List.{List}
-use Prim.Native.Nat.{ℕ, zero, suc, ◌*◌}
+use Prim.Native.Nat.{ℕ, ◌*◌}
 use lib.ListN.{length}
 use Rattle.forms.specs.Refusals.{outcome, first_of}
 use Rattle.forms.proofs.Refusals.{unless_map}
@@ -11,14 +11,14 @@ use Rattle.labyrinth.specs.declared.WorkingKey.{WorkingKey}
 use Rattle.labyrinth.specs.declared.Expanded.{Expanded}
 use Rattle.labyrinth.specs.Cipher.{Parts, article}
 use Rattle.labyrinth.specs.Keys.{E, U}
-use Rattle.labyrinth.specs.Refusals.{legal, block_refusal, expand_refusal, under_key, under_length, padded, expansion}
+use Rattle.labyrinth.specs.Refusals.{legal, expand_refusal, under_key, under_length, padded, expansion}
 use Rattle.labyrinth.specs.Working.{Taken}
 use Rattle.labyrinth.proofs.Refusals.{block_number, expand_number, key_taken, block_one, under_number, under_length_number, under_length_loaded, under_length_taken, under_loaded, under_zero}
 use Rattle.labyrinth.proofs.Expansion.{expansion_number, expansion_blank}
 use Rattle.modes.specs.Cbc.{cbc_seal, cbc_open}
 use Rattle.modes.specs.Ctr.{ctr}
 use Rattle.modes.specs.Cmac.{tag}
-use Rattle.modes.specs.Refusals.{cbc_refusal, ctr_refusal, cmac_refusal}
+use Rattle.modes.specs.Refusals.{cmac_refusal}
 use Rattle.modes.proofs.Refusals.{cbc_number, ctr_number, cmac_number, cbc_one, ctr_one, cmac_one}
 use Rattle.cmac.specs.declared.Verified.{Verified}
 use Rattle.cmac.specs.Verification.{verification}
@@ -27,11 +27,11 @@ use Rattle.sets.specs.declared.Store.{Store}
 use Rattle.sets.specs.declared.Changed.{Changed}
 use Rattle.sets.specs.Sets.{parts_in, loaded, changed, with_set, with_taken, load_refusal, load, take_refusal, take}
 use Rattle.sets.proofs.Sets.{parts_zero, loaded_zero, loaded_iff, load_number, take_number, former}
-use Rattle.publishers.specs.Calls.{Use, Call, loads, takes, uses, Answer, number, key, buffer, verdict, left, expands, enciphers, deciphers, seals, opens, counts, tags, verifies, named, used, answer, after}
+use Rattle.publishers.specs.Calls.{loads, takes, number, key, buffer, verdict, left, expands, enciphers, deciphers, seals, opens, counts, tags, verifies, named, used, answer, after}
 use Rattle.publishers.specs.Pages.{SameSet}
 use Rattle.publishers.proofs.Stores.{load_is, take_is}
 use Rattle.publishers.proofs.Pages.{zero_same, cbc_opens_again, ctr_opens_again, expands_in}
-use Rattle.promise.specs.Demands.{Expands, Enciphers, Deciphers, SealsCbc, OpensCbc, RunsCtr, Kept, UnusedWordsZero, SealedBy, OpenedBy, CountedBy, ComesBack}
+use Rattle.promise.specs.Demands.{Expands, Enciphers, Deciphers, SealsCbc, OpensCbc, RunsCtr, UnusedWordsZero, SealedBy, OpenedBy, CountedBy, ComesBack}
 use Rattle.promise.specs.Requests.{MakesTag, VerifiesTag, UsesSet, ExpandsFor, EnciphersIn, DeciphersIn, SealsCbcIn, OpensCbcIn, RunsCtrIn, MakesTagIn, VerifiesTagIn, UnderKey, AnswersBlockIn, AnswersCbcIn, AnswersCtrIn, AnswersTagIn, AnswersVerifyingIn, AnswersKeyFor, YesExactlyIn, Loads, Takes, AnswersLoad, AnswersTake, AnswersUse, AnswersCall, CbcPageOpens, CtrPageOpens, ComesBackIn}
 use Rattle.promise.proofs.Demands.{kept, unused_words_zero, sealed_by, opened_by, counted_by}
 use Rattle.promise.proofs.Requests.{yes_by}

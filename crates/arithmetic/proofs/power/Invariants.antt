@@ -1,13 +1,8 @@
 -- In every turn the value times x to the power m is what is asked for.
 -- Assumes nothing.
-use mathlib.Core.Path.{◌≡◌, sym, ap, ap₂, ◌∙◌}
-use mathlib.Core.Logic.{⊎_elim}
-use Prim.Native.Nat.{ℕ, ◌/◌, ◌%◌, ◌^◌, ◌<◌}
-use native.Mathlib.Omega.{arith}
+use mathlib.Core.Path.{◌≡◌}
+use Prim.Native.Nat.{ℕ, ◌^◌, ◌<◌}
 use Rattle.field.specs.Field.{mul, power}
-use Rattle.field.proofs.Field.{mul_lt, one-mul, mul-one}
-use Rattle.field.proofs.Power.{square, power_none, power_lt, power_even, power_odd}
-use borrow.Author.Rules.{rules}
 use Rattle.arithmetic.proofs.power.Given as goal
 
 abbrev pub Kept : ℕ → ℕ → ℕ → ℕ → Type 0

@@ -1,7 +1,6 @@
 -- By a test at the 256 bytes.
 -- Assumes nothing.
 use native.Mathlib.Omega.{arith}
-use borrow.Author.Rules.{rules}
 use Rattle.field.proofs.TimesX.{times_x_code}
 use Rattle.arithmetic.proofs.times_x.Goals as goal
 

@@ -1,7 +1,6 @@
 -- The word where it has room, and 0 where it has none.
 -- Assumes nothing.
 use mathlib.Core.Path.{sym, ◌∙◌}
-use borrow.Author.Rules.{rules}
 use Rattle.buffers.proofs.Words.{inside_there, word_at_lem, word_none}
 use Rattle.buffers.proofs.load_word.Goals as goal
 

@@ -2,7 +2,6 @@
 -- Assumes nothing.
 use native.Mathlib.Omega.{arith}
 use lib.ListN.{length-set}
-use borrow.Author.Rules.{rules}
 use Rattle.forms.proofs.Buffers.{put_word}
 use Rattle.buffers.proofs.store_inside.Goals as goal
 

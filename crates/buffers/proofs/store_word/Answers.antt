@@ -1,7 +1,6 @@
 -- The word is put where it has room, and nothing where it has none.
 -- Assumes nothing.
 use mathlib.Core.Path.{sym, ◌∙◌}
-use borrow.Author.Rules.{rules}
 use Rattle.buffers.proofs.Words.{inside_there, with_word_lem, with_none}
 use Rattle.buffers.proofs.store_word.Goals as goal
 

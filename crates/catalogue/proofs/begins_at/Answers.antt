@@ -2,7 +2,6 @@
 -- Assumes nothing.
 use native.Mathlib.Omega.{arith}
 use Rattle.pages.proofs.Commands.{begins_short, begins_long}
-use borrow.Author.Rules.{rules}
 use Rattle.catalogue.proofs.begins_at.Goals as goal
 
 pub returns-then-bytes-at : goal.returns-then-bytes-at

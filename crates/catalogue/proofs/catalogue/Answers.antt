@@ -3,10 +3,8 @@
 use mathlib.Core.Path.{◌≡◌, sym, ap₂, ◌∙◌}
 use mathlib.Core.Bool.{true}
 use Prim.Native.Nat.{ℕ}
-use borrow.Author.Tests.{not-true, not-false}
 use Rattle.pages.specs.Pages.{headed}
 use Rattle.catalogue.proofs.Catalogues.{headed_long, entry_unheaded, entry_unended, entry_record}
-use borrow.Author.Rules.{rules}
 use Rattle.catalogue.proofs.catalogue.Goals as goal
 use Rattle.catalogue.proofs.catalogue.Goals.{Else-not-heads}
 

@@ -1,11 +1,9 @@
 -- Turn by turn, the commands counted and those to come make the whole count.
 -- Assumes nothing.
-use mathlib.Core.Path.{◌≡◌, sym, ap, ◌∙◌}
+use mathlib.Core.Path.{sym, ◌∙◌}
 use Prim.Native.Nat.{◌-◌}
 use native.Mathlib.Omega.{arith}
-use borrow.Author.Tests.{not-true, not-false}
-use borrow.Author.Rules.{rules}
-use Rattle.catalogue.proofs.Catalogues.{Counting, counting_first, counting_next, counting_other, counting_all}
+use Rattle.catalogue.proofs.Catalogues.{counting_first, counting_next, counting_other, counting_all}
 use Rattle.catalogue.proofs.count_blocks.Goals as goal
 
 pub loop-count-init : goal.loop-count-init

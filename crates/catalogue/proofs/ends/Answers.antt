@@ -3,12 +3,10 @@
 use mathlib.Core.Path.{◌≡◌, sym, ◌∙◌}
 use mathlib.Core.Bool.{true}
 use native.Mathlib.Omega.{arith}
-use borrow.Author.Tests.{not-true, not-false}
 use lib.ListN.{drop, length-drop}
 use Rattle.pages.specs.Pages.{begins}
 use Rattle.pages.proofs.Commands.{begins_iff}
 use Rattle.catalogue.proofs.Catalogues.{ended_other, ended_there}
-use borrow.Author.Rules.{rules}
 use Rattle.catalogue.proofs.ends.Goals as goal
 use Rattle.catalogue.proofs.ends.Goals.{Else-not-begins_at}
 

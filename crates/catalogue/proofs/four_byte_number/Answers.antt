@@ -3,7 +3,6 @@
 use native.Mathlib.Omega.{arith}
 use Rattle.forms.specs.Words.{join}
 use Rattle.pages.specs.Pages.{four_byte_number}
-use borrow.Author.Rules.{rules}
 use Rattle.catalogue.proofs.four_byte_number.Goals as goal
 
 pub returns : goal.returns

@@ -1,11 +1,8 @@
 -- One command after another.
 -- Assumes nothing.
-use mathlib.Core.Path.{◌≡◌, sym, ap, ap₂, ◌∙◌}
-use mathlib.Core.Bool.{Bool, true, false, ◌&&◌}
-use borrow.Author.Tests.{not-true, not-false}
-use Rattle.pages.specs.Pages.{begins, headed, behind10, behind11, behind12}
+use mathlib.Core.Path.{sym, ◌∙◌}
+use mathlib.Core.Bool.{true, false}
 use Rattle.catalogue.proofs.Catalogues.{headed_first, headed_second, headed_third, headed_all}
-use borrow.Author.Rules.{rules}
 use Rattle.catalogue.proofs.heads.Goals as goal
 
 pub returns-then-not-begins_at : goal.returns-then-not-begins_at

@@ -1,12 +1,10 @@
 -- An empty part, or the title's bytes.
 -- Assumes nothing.
 use mathlib.Core.Path.{◌≡◌, sym, ap, ◌∙◌}
-use Prim.Native.Nat.{ℕ}
 use native.Mathlib.Omega.{arith}
 use Rattle.catalogue.specs.declared.Entry.{Entry}
 use Rattle.catalogue.specs.Catalogue.{entry}
 use Rattle.catalogue.proofs.Catalogues.{title_none, title_there, title_long}
-use borrow.Author.Rules.{rules}
 use Rattle.catalogue.proofs.title.Goals as goal
 use Rattle.catalogue.proofs.title.Goals.{Else-e-ne0}
 

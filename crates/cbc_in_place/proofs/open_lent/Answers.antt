@@ -5,7 +5,6 @@ use mathlib.Core.List.{List}
 use Prim.Native.Nat.{ℕ, ◌*◌, ◌≤◌}
 use native.Mathlib.Omega.{arith}
 use lib.ListN.{length, take}
-use borrow.Author.Rules.{rules}
 use Rattle.forms.proofs.Refusals.{refused_keeps}
 use Rattle.strings.proofs.Laying.{block_copy_front, block_copy_length}
 use Rattle.labyrinth.specs.Lent.{lent}

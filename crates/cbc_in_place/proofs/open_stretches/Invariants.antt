@@ -1,15 +1,10 @@
 -- What stands before `at` is opened, the chain holds the sealed block before it, and the rest is sealed still.
 -- Assumes nothing.
-use mathlib.Core.Path.{◌≡◌, sym, ap, ◌∙◌}
-use mathlib.Core.List.{List}
-use Prim.Native.Nat.{ℕ, ◌+◌, ◌-◌, ◌*◌, ◌%◌, ◌≤◌, ◌<◌, min}
-use native.Mathlib.Omega.{arith}
-use lib.ListN.{length, take, drop}
-use borrow.Author.Rules.{rules}
-use Rattle.forms.proofs.Parts.{part_length}
+use Prim.Native.Nat.{◌-◌, ◌*◌}
+use lib.ListN.{length}
 use Rattle.labyrinth.specs.Lent.{lent}
 use Rattle.modes.specs.Cbc.{cbc_open}
-use Rattle.cbc_in_place.proofs.Stretches.{Opened, opened_first, opened_next, opened_last, stretch_whole}
+use Rattle.cbc_in_place.proofs.Stretches.{Opened}
 use Rattle.cbc_in_place.proofs.open_stretches.Given as goal
 
 abbrev pub invariant-loop-at : goal.invariant-loop-at

@@ -1,7 +1,6 @@
 -- A refusal leaves the destination; else the run is made.
 -- Assumes nothing.
-use mathlib.Core.Path.{refl, sym, ◌∙◌}
-use borrow.Author.Rules.{rules}
+use mathlib.Core.Path.{sym, ◌∙◌}
 use Rattle.forms.proofs.Refusals.{refused_keeps}
 use Rattle.modes.proofs.Refusals.{cbc_taken}
 use Rattle.cbc_lent.proofs.open_lent.Goals as goal

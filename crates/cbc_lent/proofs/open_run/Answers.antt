@@ -6,7 +6,6 @@ use Prim.Native.Nat.{ℕ, ◌-◌, ◌*◌, ◌%◌, ◌≤◌, ◌<◌}
 use native.Mathlib.Omega.{arith}
 use lib.ListN.{length, take, drop, length-append, length-drop}
 use lib.Seq.{take_all, take_at, length-take-le}
-use borrow.Author.Rules.{rules}
 use Rattle.forms.specs.Strings.{xor_bytes}
 use Rattle.forms.specs.Mapped.{each_block}
 use Rattle.forms.proofs.Strings.{no_block, block_within}

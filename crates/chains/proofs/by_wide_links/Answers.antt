@@ -6,12 +6,10 @@ use mathlib.Core.List.{List, ◌++◌}
 use Prim.Native.Nat.{ℕ, ◌+◌, ◌-◌, ◌*◌, ◌≤◌, ◌<◌}
 use native.Mathlib.Omega.{arith}
 use lib.ListN.{length, take, drop}
-use borrow.Author.Rules.{rules}
 use Rattle.forms.specs.Lists.{when}
 use Rattle.forms.proofs.Parts.{part_length}
-use Rattle.forms.proofs.Chains.{Linked, linked_first, linked_block, linked_blocks, linked_last, linked_next}
+use Rattle.forms.proofs.Chains.{linked_first, linked_block, linked_blocks, linked_last, linked_next}
 use Rattle.strings.proofs.Laying.{copy_whole}
-use Rattle.labyrinth.specs.Groups.{wide_lent}
 use Rattle.chains.proofs.by_wide_links.Goals as goal
 use Rattle.chains.proofs.by_wide_links.Goals.{In-loop-at, Start, Then-keep}
 

@@ -1,16 +1,8 @@
 -- The block so far is chained with the next; with keep, those before `at` are written.
 -- Assumes nothing.
-use mathlib.Core.Path.{◌≡◌, refl, sym, ap, ◌∙◌}
-use mathlib.Core.Bool.{Bool}
-use mathlib.Core.List.{List, ◌++◌}
-use Prim.Native.Nat.{ℕ, ◌+◌, ◌-◌, ◌*◌, ◌≤◌, ◌<◌}
-use native.Mathlib.Omega.{arith}
-use lib.ListN.{length, take, drop}
-use borrow.Author.Rules.{rules}
-use Rattle.forms.specs.Lists.{when}
-use Rattle.forms.proofs.Parts.{part_length}
-use Rattle.forms.proofs.Chains.{Linked, linked_first, linked_block, linked_blocks, linked_last, linked_next}
-use Rattle.strings.proofs.Laying.{copy_whole}
+use Prim.Native.Nat.{◌-◌, ◌*◌}
+use lib.ListN.{length}
+use Rattle.forms.proofs.Chains.{Linked}
 use Rattle.labyrinth.specs.Groups.{wide_lent}
 use Rattle.chains.proofs.by_wide_links.Given as goal
 

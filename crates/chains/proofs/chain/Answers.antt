@@ -1,6 +1,5 @@
 -- A refusal leaves the block before the first and the destination; else every block is chained.
 -- Assumes nothing.
-use borrow.Author.Rules.{rules}
 use Rattle.forms.proofs.Refusals.{refused_keeps}
 use Rattle.chains.proofs.Refusals.{chain_taken}
 use Rattle.chains.proofs.chain.Goals as goal

@@ -1,7 +1,6 @@
 -- A refusal leaves the block before the first; else every block is chained, and none is written.
 -- Assumes nothing.
 use mathlib.Core.Bool.{false≢true}
-use borrow.Author.Rules.{rules}
 use Rattle.forms.proofs.Refusals.{refused_keeps}
 use Rattle.chains.proofs.Refusals.{chain_taken}
 use Rattle.chains.proofs.chain_on.Goals as goal

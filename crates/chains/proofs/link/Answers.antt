@@ -6,7 +6,6 @@ use Prim.Native.Nat.{ℕ}
 use native.Mathlib.Omega.{arith}
 use lib.ListN.{length, take, drop, length-append}
 use lib.Seq.{length-take-le}
-use borrow.Author.Rules.{rules}
 use Rattle.forms.specs.Strings.{xor_bytes}
 use Rattle.forms.proofs.Strings.{length_xor_bytes}
 use Rattle.forms.proofs.Parts.{take_filled}

@@ -1,10 +1,9 @@
 -- The words of the block and of the chain, XORed, mapped, and stored over the chain.
 -- Assumes nothing.
-use mathlib.Core.Path.{◌≡◌, ap, ◌∙◌}
+use mathlib.Core.Path.{ap, ◌∙◌}
 use native.Mathlib.Omega.{arith}
 use Rattle.labyrinth.specs.Groups.{in_memory, lookup_four, spaced_sub, line_by}
 use Rattle.chains.proofs.Wide.{two_mixed, two_stored, link_made}
-use borrow.Author.Rules.{rules}
 use Rattle.chains.proofs.link_1.Goals as goal
 
 pub returns : goal.returns

@@ -1,15 +1,9 @@
 -- The XOR of the block and the chain stands in the 64 bytes, and is mapped to the next chain.
 -- Assumes nothing.
-use mathlib.Core.Path.{◌≡◌, refl, sym, ap, ◌∙◌}
-use mathlib.Core.Bool.{true, ◌&&◌}
-use mathlib.Core.List.{List}
+use mathlib.Core.Path.{refl}
 use native.Mathlib.Omega.{arith}
-use lib.ListN.{length}
-use Rattle.forms.specs.Strings.{xor_bytes}
-use Rattle.forms.proofs.Strings.{length_xor_bytes}
 use Rattle.strings.proofs.Laying.{xor_whole}
 use Rattle.chains.proofs.Wide.{block_made}
-use borrow.Author.Rules.{rules}
 use Rattle.chains.proofs.link_4.Goals as goal
 
 pub returns : goal.returns

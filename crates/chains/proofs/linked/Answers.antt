@@ -1,6 +1,6 @@
 -- Each arm chains by its own forms; those that are made give the block map that is lent.
 -- Assumes nothing.
-use mathlib.Core.Path.{◌≡◌, ap, ◌∙◌}
+use mathlib.Core.Path.{ap, ◌∙◌}
 use mathlib.Core.List.{List}
 use Prim.Native.Nat.{ℕ, ◌*◌, ◌/◌}
 use lib.ListN.{length}
@@ -8,7 +8,6 @@ use Rattle.forms.specs.Lists.{when}
 use Rattle.forms.specs.Mapped.{chain_blocks, chain_last}
 use Rattle.eight_tables.proofs.Making.{eight_filled}
 use Rattle.chains.proofs.Wide.{made_four, made_lent}
-use borrow.Author.Rules.{rules}
 use Rattle.chains.proofs.linked.Goals as goal
 
 pub by_wide_links-requires : goal.by_wide_links-requires

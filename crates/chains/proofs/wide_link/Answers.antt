@@ -1,11 +1,9 @@
 -- Each arm chains a block of its n.
 -- Assumes nothing.
-use mathlib.Core.Path.{◌≡◌}
 use native.Mathlib.Omega.{arith}
 use Rattle.forms.specs.Strings.{xor_bytes}
 use Rattle.labyrinth.proofs.Ends.{is_four}
 use Rattle.chains.proofs.Wide.{four_link, wide_link}
-use borrow.Author.Rules.{rules}
 use Rattle.chains.proofs.wide_link.Goals as goal
 
 pub link_1-requires : goal.link_1-requires

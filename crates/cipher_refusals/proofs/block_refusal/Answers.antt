@@ -1,12 +1,11 @@
 -- The checks in their order.
 -- Assumes nothing.
-use mathlib.Core.Path.{◌≡◌, sym, ◌∙◌}
+use mathlib.Core.Path.{sym, ◌∙◌}
 use Prim.Native.Nat.{◌*◌}
 use native.Mathlib.Omega.{arith}
-use borrow.Author.Tests.{not-true, not-false, eq-eqb, ne_eqb}
+use borrow.Author.Tests.{eq-eqb, ne_eqb}
 use Rattle.labyrinth.specs.Refusals.{block_refusal}
 use Rattle.labyrinth.proofs.Refusals.{legal_size_of}
-use borrow.Author.Rules.{rules}
 use Rattle.cipher_refusals.proofs.block_refusal.Goals as goal
 
 pub returns-then-not-is_legal : goal.returns-then-not-is_legal

@@ -3,7 +3,6 @@
 use mathlib.Core.Path.{◌≡◌, refl, ap, ◌∙◌}
 use mathlib.Core.Bool.{Bool, false}
 use lib.ListN.{length}
-use borrow.Author.Rules.{rules}
 use Rattle.labyrinth.specs.Keys.{E}
 use Rattle.labyrinth.specs.Refusals.{under_key}
 use Rattle.labyrinth.specs.Lent.{lent}

@@ -5,7 +5,6 @@ use Prim.Native.Nat.{ℕ, ◌≤◌}
 use native.Mathlib.Omega.{arith}
 use lib.ListN.{length}
 use lib.Seq.{length-take-le}
-use borrow.Author.Rules.{rules}
 use Rattle.labyrinth.specs.Lent.{lent}
 use Rattle.modes.specs.Cmac.{mac}
 use Rattle.modes.proofs.Maps.{keeps_lent_one}

@@ -2,7 +2,6 @@
 -- Assumes nothing.
 use mathlib.Core.Path.{refl, ◌∙◌}
 use mathlib.Core.Bool.{false}
-use borrow.Author.Rules.{rules}
 use Rattle.labyrinth.specs.Lent.{ArticlePrepared}
 use Rattle.labyrinth.proofs.Lent.{article_by_one}
 use Rattle.modes.proofs.Refusals.{cmac_taken}

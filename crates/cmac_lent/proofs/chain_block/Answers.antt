@@ -3,7 +3,6 @@
 use mathlib.Core.Path.{refl, ap, ◌∙◌}
 use native.Mathlib.Omega.{arith}
 use lib.ListN.{replicate}
-use borrow.Author.Rules.{rules}
 use Rattle.strings.proofs.Laying.{xor_whole}
 use Rattle.labyrinth.specs.Lent.{lent}
 use Rattle.labyrinth.proofs.Sizes.{size_one}

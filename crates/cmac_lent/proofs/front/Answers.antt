@@ -1,7 +1,6 @@
 -- A message of no bytes has one block, and any other as many as it fills.
 -- Assumes nothing.
 use Rattle.modes.proofs.Cmac.{front_none, front_some}
-use borrow.Author.Rules.{rules}
 use Rattle.cmac_lent.proofs.front.Goals as goal
 
 pub returns-then-size-eq0 : goal.returns-then-size-eq0

@@ -2,7 +2,6 @@
 -- Assumes nothing.
 use mathlib.Core.Path.{refl}
 use lib.ListN.{replicate}
-use borrow.Author.Rules.{rules}
 use Rattle.labyrinth.specs.Lent.{lent}
 use Rattle.labyrinth.proofs.Sizes.{size_one}
 use Rattle.labyrinth.proofs.Lent.{table_lendable, lent_block}

@@ -11,7 +11,6 @@ use Rattle.rows.specs.Rows.{row_refusal, mixed}
 use Rattle.rows.specs.Inverse.{inverted}
 use Rattle.rows.proofs.Ring.{given_row}
 use Rattle.conversions.proofs.Rows.{converted}
-use borrow.Author.Rules.{rules}
 use Rattle.conversions.proofs.word_converted.Goals as goal
 
 pub returns : goal.returns

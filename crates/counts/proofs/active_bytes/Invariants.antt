@@ -1,13 +1,9 @@
 -- After k turns n is the count of the bytes below k that are not zero.
 -- Assumes nothing.
-use mathlib.Core.Path.{◌≡◌, ap, ◌∙◌}
-use mathlib.Core.Logic.{⊎_elim}
-use Prim.Native.Nat.{ℕ, ◌≤◌, ◌-◌}
-use native.Mathlib.Omega.{arith}
-use borrow.Author.Rules.{rules}
+use mathlib.Core.Path.{◌≡◌}
+use Prim.Native.Nat.{◌≤◌, ◌-◌}
 use Rattle.forms.specs.Words.{byte}
-use Rattle.judge.specs.Judge.{nonzero, active_bytes}
-use Rattle.judge.proofs.Counts.{nonzero_most, count_skip, count_take}
+use Rattle.judge.specs.Judge.{nonzero}
 use Rattle.counts.proofs.active_bytes.Given as goal
 
 abbrev pub invariant-loop-k : goal.invariant-loop-k

@@ -2,13 +2,12 @@
 -- Assumes nothing.
 use mathlib.Core.Path.{◌≡◌, refl, ◌∙◌}
 use mathlib.Core.List.{◌++◌}
-use Prim.Native.Nat.{◌+◌, ◌-◌, ◌/◌, ◌≤◌}
+use Prim.Native.Nat.{◌+◌, ◌-◌, ◌≤◌}
 use native.Mathlib.Omega.{arith}
 use lib.ListN.{length, take, drop, length-set}
-use borrow.Author.Rules.{rules}
 use Rattle.forms.proofs.Parts.{part_length}
 use Rattle.strings.proofs.Laying.{copy_whole}
-use Rattle.ctr_lent.proofs.Counting.{Counted, counted_first, counted_block, counted_size, counted_kept, counted_next, counted_all, counted_last}
+use Rattle.ctr_lent.proofs.Counting.{counted_first, counted_block, counted_size, counted_kept, counted_next, counted_all, counted_last}
 use Rattle.ctr_lent.proofs.count_up.Goals as goal
 use Rattle.ctr_lent.proofs.count_up.Goals.{After-copy_into, In-loop-at}
 

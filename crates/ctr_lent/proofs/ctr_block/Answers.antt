@@ -6,7 +6,6 @@ use Prim.Native.Nat.{ℕ}
 use native.Mathlib.Omega.{arith}
 use lib.ListN.{length, drop, length-append}
 use lib.Seq.{length-take-le}
-use borrow.Author.Rules.{rules}
 use Rattle.forms.proofs.Parts.{take_filled}
 use Rattle.strings.proofs.Laying.{xor_whole}
 use Rattle.labyrinth.specs.Lent.{lent}

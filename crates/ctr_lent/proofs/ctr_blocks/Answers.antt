@@ -7,7 +7,6 @@ use native.Mathlib.Nat.{div-mul-le_self, div-add-mod', mod-lt, mul-mod_left}
 use native.Mathlib.Omega.{arith}
 use lib.ListN.{length, take, drop, length-append, length-drop, drop_of_length-le}
 use lib.Seq.{take_all, drop_at, length-take-le}
-use borrow.Author.Rules.{rules}
 use Rattle.forms.specs.Strings.{xor_bytes}
 use Rattle.forms.specs.Mapped.{each_block}
 use Rattle.forms.proofs.Parts.{take_filled, part_length, part_to_end}

@@ -5,7 +5,6 @@ use mathlib.Core.List.{List}
 use Prim.Native.Nat.{ℕ, ◌+◌, ◌*◌, ◌≤◌}
 use native.Mathlib.Omega.{arith}
 use lib.ListN.{length, take, drop, length-append}
-use borrow.Author.Rules.{rules}
 use Rattle.forms.specs.Strings.{number, string}
 use Rattle.forms.proofs.Parts.{take_filled}
 use Rattle.strings.proofs.Laying.{block_copy_front, block_copy_length}

@@ -2,7 +2,6 @@
 -- Assumes nothing.
 use Prim.Native.Nat.{◌*◌}
 use native.Mathlib.Omega.{arith}
-use borrow.Author.Rules.{rules}
 use Rattle.ctr_lent.proofs.Counting.{run_block}
 use Rattle.ctr_lent.proofs.from_counter.Goals as goal
 

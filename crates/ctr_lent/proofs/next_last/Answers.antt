@@ -3,7 +3,6 @@
 use mathlib.Core.Path.{◌∙◌}
 use native.Mathlib.Omega.{arith}
 use lib.ListN.{length-set}
-use borrow.Author.Rules.{rules}
 use Rattle.ctr_lent.proofs.Counting.{last_more, last_wraps}
 use Rattle.ctr_lent.proofs.next_last.Goals as goal
 

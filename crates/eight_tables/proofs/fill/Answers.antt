@@ -1,9 +1,7 @@
 -- Only where both lengths are right anything is filled.
 -- Assumes nothing.
-use mathlib.Core.Path.{◌∙◌}
 use native.Mathlib.Omega.{arith}
 use borrow.Author.Tests.{eq-eqb, ne_eqb}
-use borrow.Author.Rules.{rules}
 use Rattle.eight_tables.proofs.fill.Goals as goal
 
 pub returns-then-t-ne256 : goal.returns-then-t-ne256

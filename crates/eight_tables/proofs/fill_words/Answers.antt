@@ -1,10 +1,9 @@
 -- After i turns the first i words of each table are there.
 -- Assumes nothing.
 use mathlib.Core.Path.{◌≡◌, sym, ◌∙◌}
-use Prim.Native.Nat.{◌-◌, ◌≤◌}
+use Prim.Native.Nat.{◌-◌}
 use native.Mathlib.Omega.{arith}
-use borrow.Author.Rules.{rules}
-use Rattle.eight_tables.proofs.Making.{Filling, filling_none, filling_more, filling_all}
+use Rattle.eight_tables.proofs.Making.{filling_none, filling_more, filling_all}
 use Rattle.eight_tables.proofs.fill_words.Goals as goal
 
 pub loop-i-init : goal.loop-i-init

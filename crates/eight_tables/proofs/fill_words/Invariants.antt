@@ -1,10 +1,7 @@
 -- After i turns the first i words of each table are there.
 -- Assumes nothing.
-use mathlib.Core.Path.{◌≡◌, sym, ◌∙◌}
 use Prim.Native.Nat.{◌-◌, ◌≤◌}
-use native.Mathlib.Omega.{arith}
-use borrow.Author.Rules.{rules}
-use Rattle.eight_tables.proofs.Making.{Filling, filling_none, filling_more, filling_all}
+use Rattle.eight_tables.proofs.Making.{Filling}
 use Rattle.eight_tables.proofs.fill_words.Given as goal
 
 abbrev pub invariant-loop-i : goal.invariant-loop-i

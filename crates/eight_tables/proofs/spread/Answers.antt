@@ -1,11 +1,10 @@
 -- After b turns word i of the first b tables is there.
 -- Assumes nothing.
 use mathlib.Core.Path.{◌≡◌, sym, ap, ◌∙◌}
-use Prim.Native.Nat.{◌-◌, ◌*◌, ◌%◌, ◌≤◌}
+use Prim.Native.Nat.{◌-◌, ◌*◌, ◌%◌}
 use native.Mathlib.Omega.{arith}
-use borrow.Author.Rules.{rules}
 use Rattle.forms.specs.Words.{rotl}
-use Rattle.eight_tables.proofs.Making.{Spreading, spreading_none, spreading_more, spreading_all}
+use Rattle.eight_tables.proofs.Making.{spreading_none, spreading_more, spreading_all}
 use Rattle.eight_tables.proofs.spread.Goals as goal
 
 pub loop-b-init : goal.loop-b-init

@@ -1,8 +1,8 @@
 -- Set 0 goes its own way; else the checks, and the merged table of the set gives its word map.
 -- Assumes nothing.
-use Rattle.std.proofs.Common.{◌≡◌, ℕ, Bool, true, List, length, sym, refl, ap, ◌∙◌, ap₂, rules}
+use Rattle.std.proofs.Common.{◌≡◌, ℕ, Bool, true, List, length, sym, refl, ap, ◌∙◌, ap₂}
 use Rattle.field.specs.Merged.{merged, lookup}
-use Rattle.labyrinth.specs.Cipher.{Parts, parts_of, article}
+use Rattle.labyrinth.specs.Cipher.{Parts, parts_of}
 use Rattle.labyrinth.specs.Keys.{expanded_words}
 use Rattle.labyrinth.specs.Refusals.{expand_refusal, under_length, expansion, padded}
 use Rattle.labyrinth.proofs.Agree.{lookup_agrees}

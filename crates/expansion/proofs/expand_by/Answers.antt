@@ -1,6 +1,6 @@
 -- The words are those of the walk.
 -- Assumes nothing.
-use Rattle.std.proofs.Common.{ℕ, List, ap, arith, rules}
+use Rattle.std.proofs.Common.{ℕ, List, ap, arith}
 use Rattle.labyrinth.specs.declared.Expanded.{Expanded}
 use Rattle.labyrinth.proofs.Expansion.{product}
 use Rattle.expansion.proofs.expand_by.Goals as goal

@@ -1,6 +1,6 @@
 -- The number is the definition's; where it is 0, the words are those of the walk, and the merged table's word map is the article's.
 -- Assumes nothing.
-use Rattle.std.proofs.Common.{ℕ, List, sym, ap, ◌∙◌, arith, rules}
+use Rattle.std.proofs.Common.{ℕ, List, sym, ap, ◌∙◌}
 use Rattle.field.specs.Merged.{merged, lookup}
 use Rattle.field.specs.Published.{table1, row}
 use Rattle.field.proofs.Substitution.{table1_undo}
@@ -9,7 +9,7 @@ use Rattle.labyrinth.specs.Keys.{expanded_words}
 use Rattle.labyrinth.specs.Refusals.{padded}
 use Rattle.labyrinth.proofs.Agree.{lookup_agrees}
 use Rattle.labyrinth.proofs.Refusals.{key_taken}
-use Rattle.labyrinth.proofs.Expansion.{product, refused_is, taken_is}
+use Rattle.labyrinth.proofs.Expansion.{refused_is, taken_is}
 use Rattle.expansion.proofs.expand_published.Goals as goal
 
 pub returns-then-number-ne0 : goal.returns-then-number-ne0

@@ -1,10 +1,8 @@
 -- After i turns the first i words stand.
 -- Assumes nothing.
-use Rattle.std.proofs.Common.{◌≡◌, ℕ, ◌+◌, ◌-◌, ◌*◌, ◌≤◌, get_or, ap, ◌∙◌, arith, rules}
-use Rattle.forms.specs.Lists.{tabulate, xor_sum}
+use Rattle.std.proofs.Common.{◌≡◌, ℕ, ◌-◌, ap, ◌∙◌, arith}
 use Rattle.forms.specs.Words.{rotl}
 use Rattle.labyrinth.specs.Keys.{register}
-use Rattle.labyrinth.specs.Working.{four_words}
 use Rattle.labyrinth.proofs.FourWords.{four_none, four_more, four_end}
 use Rattle.expansion.proofs.first_register.Goals as goal
 

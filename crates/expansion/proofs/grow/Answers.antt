@@ -1,11 +1,7 @@
 -- j half-blocks stand, and what is left to do gives the whole.
 -- Assumes nothing.
-use Rattle.std.proofs.Common.{◌≡◌, ℕ, ◌-◌, ◌*◌, ◌≤◌, List, take, arith, rules}
-use Rattle.forms.specs.Words.{words}
-use Rattle.field.specs.Merged.{lookup}
-use Rattle.labyrinth.specs.Keys.{expanded_words}
-use Rattle.labyrinth.specs.Refusals.{padded}
-use Rattle.labyrinth.proofs.Expansion.{Grown, grown_start, grown_step, grown_end, register_taken}
+use Rattle.std.proofs.Common.{◌≡◌, ◌-◌, arith}
+use Rattle.labyrinth.proofs.Expansion.{grown_start, grown_step, grown_end, register_taken}
 use Rattle.expansion.proofs.grow.Goals as goal
 
 pub first_register-g-requires : goal.first_register-g-requires

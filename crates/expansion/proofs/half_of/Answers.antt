@@ -1,9 +1,7 @@
 -- After i turns the first i words stand.
 -- Assumes nothing.
-use Rattle.std.proofs.Common.{◌≡◌, ℕ, ◌+◌, ◌-◌, ◌*◌, ◌≤◌, List, get_or, ap, arith, rules}
-use Rattle.forms.specs.Lists.{tabulate}
+use Rattle.std.proofs.Common.{◌≡◌, ℕ, ◌-◌, List, get_or, ap, arith}
 use Rattle.labyrinth.specs.Keys.{half}
-use Rattle.labyrinth.specs.Working.{four_words}
 use Rattle.labyrinth.proofs.FourWords.{four_none, four_more, four_end}
 use Rattle.expansion.proofs.half_of.Goals as goal
 

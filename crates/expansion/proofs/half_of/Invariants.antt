@@ -1,10 +1,8 @@
 -- After i turns the first i words stand.
 -- Assumes nothing.
-use Rattle.std.proofs.Common.{◌≡◌, ℕ, ◌+◌, ◌-◌, ◌*◌, ◌≤◌, List, get_or, ap, arith, rules}
+use Rattle.std.proofs.Common.{◌≡◌, ◌+◌, ◌-◌, ◌*◌, ◌≤◌, get_or}
 use Rattle.forms.specs.Lists.{tabulate}
-use Rattle.labyrinth.specs.Keys.{half}
 use Rattle.labyrinth.specs.Working.{four_words}
-use Rattle.labyrinth.proofs.FourWords.{four_none, four_more, four_end}
 use Rattle.expansion.proofs.half_of.Given as goal
 
 abbrev pub invariant-loop-i : goal.invariant-loop-i

@@ -1,6 +1,6 @@
 -- After i turns the first i words stand, and zeros behind them.
 -- Assumes nothing.
-use Rattle.std.proofs.Common.{◌≡◌, ℕ, ◌-◌, ◌*◌, ◌≤◌, refl, ap, ◌∙◌, arith, rules}
+use Rattle.std.proofs.Common.{◌≡◌, ℕ, ◌-◌, ◌*◌, refl, ap, ◌∙◌, arith}
 use Rattle.forms.specs.Lists.{tabulate}
 use Rattle.forms.specs.Words.{words}
 use Rattle.buffers.proofs.Words.{word_at_lem}

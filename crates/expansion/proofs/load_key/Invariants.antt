@@ -1,11 +1,8 @@
 -- After i turns the first i words stand, and zeros behind them.
 -- Assumes nothing.
-use Rattle.std.proofs.Common.{◌≡◌, ℕ, ◌-◌, ◌*◌, ◌≤◌, refl, ap, ◌∙◌, arith, rules}
-use Rattle.forms.specs.Lists.{tabulate}
+use Rattle.std.proofs.Common.{◌≡◌, ◌-◌, ◌≤◌}
 use Rattle.forms.specs.Words.{words}
-use Rattle.buffers.proofs.Words.{word_at_lem}
 use Rattle.labyrinth.specs.Refusals.{padded}
-use Rattle.labyrinth.proofs.Expansion.{load_more}
 use Rattle.expansion.proofs.load_key.Given as goal
 
 abbrev pub invariant-loop-i : goal.invariant-loop-i

@@ -1,6 +1,6 @@
 -- After i turns the first i words stand behind the half-blocks before.
 -- Assumes nothing.
-use Rattle.std.proofs.Common.{◌≡◌, ℕ, ◌+◌, ◌-◌, ◌*◌, ◌≤◌, List, ◌++◌, length, get_or, refl, ap, ◌∙◌, arith, rules}
+use Rattle.std.proofs.Common.{◌≡◌, ℕ, ◌+◌, ◌-◌, ◌++◌, get_or, refl, ap, ◌∙◌, arith}
 use Rattle.forms.specs.Lists.{tabulate}
 use Rattle.labyrinth.specs.Refusals.{padded}
 use Rattle.labyrinth.proofs.Expansion.{put_none, put_more}

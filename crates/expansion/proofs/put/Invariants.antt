@@ -1,9 +1,8 @@
 -- After i turns the first i words stand behind the half-blocks before.
 -- Assumes nothing.
-use Rattle.std.proofs.Common.{◌≡◌, ℕ, ◌+◌, ◌-◌, ◌*◌, ◌≤◌, List, ◌++◌, length, get_or, refl, ap, ◌∙◌, arith, rules}
+use Rattle.std.proofs.Common.{◌≡◌, ℕ, ◌+◌, ◌-◌, ◌*◌, ◌≤◌, List, ◌++◌, length, get_or}
 use Rattle.forms.specs.Lists.{tabulate}
 use Rattle.labyrinth.specs.Refusals.{padded}
-use Rattle.labyrinth.proofs.Expansion.{put_none, put_more}
 use Rattle.expansion.proofs.put.Given as goal
 
 abbrev pub invariant-loop-i : goal.invariant-loop-i

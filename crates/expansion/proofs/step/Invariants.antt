@@ -1,12 +1,10 @@
 -- After i turns the first i words are stepped.
 -- Assumes nothing.
-use Rattle.std.proofs.Common.{◌≡◌, ℕ, ◌-◌, ◌≤◌, get_or, take, sym, ap, ◌∙◌, arith, get_or-take, rules}
+use Rattle.std.proofs.Common.{◌≡◌, ◌-◌, ◌≤◌, get_or, take}
 use lib.Bits.{bit_xor}
 use Rattle.forms.specs.Lists.{tabulate}
-use Rattle.labyrinth.specs.Blocks.{plus, each}
-use Rattle.labyrinth.specs.Keys.{delta}
+use Rattle.labyrinth.specs.Blocks.{plus}
 use Rattle.labyrinth.specs.Working.{four_words}
-use Rattle.labyrinth.proofs.FourWords.{four_none, four_more, four_end}
 use Rattle.std.proofs.num.wrapping_add_u64.Reads as wrapping-add-u64-reads
 use Rattle.expansion.proofs.step.Given as goal
 

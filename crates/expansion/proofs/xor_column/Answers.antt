@@ -1,6 +1,6 @@
 -- After j turns the sum is that of the half-blocks below j.
 -- Assumes nothing.
-use Rattle.std.proofs.Common.{◌≡◌, ℕ, ◌+◌, ◌-◌, ◌*◌, ◌≤◌, List, get_or, refl, ap, arith, rules}
+use Rattle.std.proofs.Common.{◌≡◌, ℕ, ◌-◌, List, get_or, refl, ap, arith}
 use Rattle.forms.specs.Lists.{xor_sum}
 use Rattle.forms.proofs.Sums.{xor_sum_next, xor_sum_end}
 use Rattle.expansion.proofs.xor_column.Goals as goal

@@ -1,8 +1,7 @@
 -- After j turns the sum is that of the half-blocks below j.
 -- Assumes nothing.
-use Rattle.std.proofs.Common.{◌≡◌, ℕ, ◌+◌, ◌-◌, ◌*◌, ◌≤◌, List, get_or, refl, ap, arith, rules}
+use Rattle.std.proofs.Common.{◌≡◌, ◌+◌, ◌-◌, ◌*◌, ◌≤◌, get_or}
 use Rattle.forms.specs.Lists.{xor_sum}
-use Rattle.forms.proofs.Sums.{xor_sum_next, xor_sum_end}
 use Rattle.expansion.proofs.xor_column.Given as goal
 
 abbrev pub invariant-loop-j : goal.invariant-loop-j

@@ -1,6 +1,5 @@
 -- At n = 1 the four words are one.
 -- Assumes nothing.
-use Rattle.std.proofs.Common.{rules}
 use Rattle.group_rounds.proofs.Words.{by_one}
 use Rattle.group_rounds.proofs.f_one.Goals as goal
 

@@ -1,6 +1,6 @@
 -- The place is the byte itself.
 -- Assumes nothing.
-use Rattle.std.proofs.Common.{refl, rules}
+use Rattle.std.proofs.Common.{refl}
 use Rattle.forms.specs.Words.{byte}
 use Rattle.group_rounds.proofs.place.Goals as goal
 

@@ -1,6 +1,6 @@
 -- Two words of each block, from either on.
 -- Assumes nothing.
-use Rattle.std.proofs.Common.{true, get_or, refl, arith, rules}
+use Rattle.std.proofs.Common.{true, get_or, refl, arith}
 use Rattle.labyrinth.specs.Working.{lookup_in}
 use Rattle.labyrinth.proofs.Sizes.{size_two}
 use Rattle.group_rounds.proofs.Rounds.{no_constant, constant, sum_at, by_words, new_halves}

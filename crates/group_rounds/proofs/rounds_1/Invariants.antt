@@ -1,9 +1,8 @@
 -- At an even place turns + 2 of the schedule so many iterations are done.
 -- Assumes nothing.
-use Rattle.std.proofs.Common.{◌≡◌, ◌-◌, ◌%◌, true, refl, arith, rules}
+use Rattle.std.proofs.Common.{◌≡◌, ◌-◌, ◌%◌, true}
 use Rattle.labyrinth.specs.Working.{both, lookup_in}
-use Rattle.labyrinth.proofs.Sizes.{size_one}
-use Rattle.group_rounds.proofs.Rounds.{Ran, ran_none, ran_lengths, ran_two, ran_all}
+use Rattle.group_rounds.proofs.Rounds.{Ran}
 use Rattle.group_rounds.proofs.rounds_1.Given as goal
 
 abbrev pub invariant-loop-at : goal.invariant-loop-at

@@ -1,9 +1,8 @@
 -- At a place 4 * (turns + 2) of the schedule so many iterations are done.
 -- Assumes nothing.
-use Rattle.std.proofs.Common.{◌≡◌, ◌-◌, true, arith, rules}
-use Rattle.labyrinth.specs.Working.{both, lookup_in}
+use Rattle.std.proofs.Common.{◌-◌, arith, rules}
 use Rattle.labyrinth.proofs.Sizes.{size_four}
-use Rattle.group_rounds.proofs.Rounds.{Ran, ran_none, ran_inside, ran_lengths, ran_more, ran_all}
+use Rattle.group_rounds.proofs.Rounds.{ran_none, ran_inside, ran_lengths, ran_more, ran_all}
 use Rattle.group_rounds.proofs.rounds_4.Goals as goal
 
 pub loop-at-init : goal.loop-at-init

@@ -1,6 +1,6 @@
 -- An iteration, then another whose left half is the right one of before.
 -- Assumes nothing.
-use Rattle.std.proofs.Common.{◌+◌, true, refl, ap, ◌∙◌, rules}
+use Rattle.std.proofs.Common.{◌+◌, true, refl, ap, ◌∙◌}
 use Rattle.forms.specs.Lists.{words_from}
 use Rattle.labyrinth.specs.Cipher.{round}
 use Rattle.labyrinth.specs.Working.{both, lookup_in}

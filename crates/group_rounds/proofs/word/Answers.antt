@@ -1,6 +1,6 @@
 -- The two sums together are v and the eight shares.
 -- Assumes nothing.
-use Rattle.std.proofs.Common.{◌≡◌, ℕ, ◌%◌, true, List, [], ◌∷◌, get_or, ap, ◌∙◌, ap₂, rules}
+use Rattle.std.proofs.Common.{◌≡◌, ℕ, ◌%◌, true, [], ◌∷◌, get_or}
 use lib.Bits.{bit_xor}
 use Rattle.forms.specs.Lists.{xor_sum}
 use Rattle.forms.specs.Words.{byte}

@@ -1,6 +1,5 @@
 -- The keyed words, their halves, and IMix of each block.
 -- Assumes nothing.
-use Rattle.std.proofs.Common.{rules}
 use Rattle.labyrinth.specs.Groups.{spaced_sub}
 use Rattle.labyrinth.proofs.Sizes.{size_four}
 use Rattle.group_transforms.proofs.Ends.{entered}

@@ -1,7 +1,7 @@
 -- After i turns the words below i of both halves are there.
 -- Assumes nothing.
-use Rattle.std.proofs.Common.{◌≡◌, ℕ, ◌+◌, ◌-◌, ◌%◌, ◌<◌, ◌≤◌, refl, arith, rules}
-use Rattle.forms.proofs.Lists.{Replaced, replaced_none, replaced_more, replaced_all}
+use Rattle.std.proofs.Common.{◌≡◌, ◌-◌, ◌<◌, refl, arith}
+use Rattle.forms.proofs.Lists.{replaced_none, replaced_more, replaced_all}
 use Rattle.group_transforms.proofs.Ends.{imixed}
 use Rattle.group_transforms.proofs.imix.Goals as goal
 

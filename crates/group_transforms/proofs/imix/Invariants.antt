@@ -1,8 +1,8 @@
 -- After i turns the words below i of both halves are there.
 -- Assumes nothing.
-use Rattle.std.proofs.Common.{◌≡◌, ℕ, ◌+◌, ◌-◌, ◌%◌, ◌<◌, ◌≤◌, refl, arith, rules}
-use Rattle.forms.proofs.Lists.{Replaced, replaced_none, replaced_more, replaced_all}
-use Rattle.group_transforms.proofs.Ends.{place_in, before_in, mixed, imixed}
+use Rattle.std.proofs.Common.{◌-◌, ◌≤◌}
+use Rattle.forms.proofs.Lists.{Replaced}
+use Rattle.group_transforms.proofs.Ends.{mixed}
 use Rattle.group_transforms.proofs.imix.Given as goal
 
 abbrev pub invariant-loop-i : goal.invariant-loop-i

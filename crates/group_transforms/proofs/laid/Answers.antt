@@ -1,11 +1,9 @@
 -- After j turns the words below j of both halves are laid.
 -- Assumes nothing.
-use Rattle.std.proofs.Common.{◌≡◌, ℕ, ◌+◌, ◌-◌, ◌*◌, ◌%◌, ◌<◌, ◌≤◌, sym, refl, ◌∙◌, arith, rules}
+use Rattle.std.proofs.Common.{◌≡◌, ℕ, ◌+◌, ◌-◌, ◌*◌, ◌%◌, ◌<◌, ◌≤◌, sym, refl, ◌∙◌, arith}
 use Rattle.forms.specs.Words.{rotl}
-use Rattle.labyrinth.specs.Blocks.{each}
-use Rattle.labyrinth.specs.Working.{both}
 use Rattle.labyrinth.proofs.Blocks.{get_or_each}
-use Rattle.group_transforms.proofs.Ends.{place_in, Laid, laid_none, laid_more, laid_all}
+use Rattle.group_transforms.proofs.Ends.{place_in, laid_none, laid_more, laid_all}
 use Rattle.group_transforms.proofs.laid.Goals as goal
 use Rattle.group_transforms.proofs.laid.Goals.{In-loop-j}
 

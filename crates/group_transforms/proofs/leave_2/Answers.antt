@@ -1,6 +1,5 @@
 -- IMix of each block, its words as in memory, and those unkeyed.
 -- Assumes nothing.
-use Rattle.std.proofs.Common.{rules}
 use Rattle.labyrinth.specs.Groups.{spaced_sub}
 use Rattle.labyrinth.proofs.Sizes.{size_two}
 use Rattle.group_transforms.proofs.Ends.{left}

@@ -1,10 +1,8 @@
 -- After j turns the words below j are there.
 -- Assumes nothing.
-use Rattle.std.proofs.Common.{◌≡◌, ◌-◌, ◌/◌, ◌%◌, ◌<◌, ◌≤◌, refl, ◌∙◌, arith, rules}
-use Rattle.forms.proofs.Lists.{Replaced, replaced_none, replaced_more, replaced_all}
+use Rattle.std.proofs.Common.{◌≡◌, ◌-◌, ◌<◌, refl, ◌∙◌, arith}
+use Rattle.forms.proofs.Lists.{replaced_none, replaced_more, replaced_all}
 use Rattle.labyrinth.specs.Cipher as spec
-use Rattle.labyrinth.specs.Working.{both}
-use Rattle.labyrinth.specs.Groups.{block_of}
 use Rattle.group_transforms.proofs.Ends.{sigma_first, sigma_later}
 use Rattle.group_transforms.proofs.sigma.Goals as goal
 use Rattle.group_transforms.proofs.sigma.Goals.{then-j-n-eq0, else-j-n-eq0}

@@ -1,11 +1,10 @@
 -- After j turns the words below j are there.
 -- Assumes nothing.
-use Rattle.std.proofs.Common.{◌≡◌, ◌-◌, ◌/◌, ◌%◌, ◌<◌, ◌≤◌, refl, ◌∙◌, ⊎_elim, arith, rules}
-use Rattle.forms.proofs.Lists.{Replaced, replaced_none, replaced_more, replaced_all}
+use Rattle.std.proofs.Common.{◌-◌, ◌/◌, ◌%◌, ◌≤◌}
+use Rattle.forms.proofs.Lists.{Replaced}
 use Rattle.labyrinth.specs.Cipher as spec
 use Rattle.labyrinth.specs.Working.{both}
 use Rattle.labyrinth.specs.Groups.{block_of}
-use Rattle.group_transforms.proofs.Ends.{sigma_first, sigma_later}
 use Rattle.group_transforms.proofs.sigma.Given as goal
 
 abbrev pub invariant-loop-j : goal.invariant-loop-j

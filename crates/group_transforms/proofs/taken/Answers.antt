@@ -1,8 +1,8 @@
 -- After j turns the words below j are there.
 -- Assumes nothing.
-use Rattle.std.proofs.Common.{◌≡◌, ℕ, ◌+◌, ◌-◌, ◌*◌, ◌%◌, ◌<◌, ◌≤◌, get_or, refl, ap, ◌∙◌, mod-eq_of_lt, arith, rules}
+use Rattle.std.proofs.Common.{◌≡◌, ℕ, ◌+◌, ◌-◌, ◌*◌, ◌%◌, ◌<◌, ◌≤◌, get_or, refl, ap, ◌∙◌, mod-eq_of_lt, arith}
 use Rattle.forms.specs.Words.{rotl}
-use Rattle.forms.proofs.Lists.{Replaced, replaced_none, replaced_more, replaced_all}
+use Rattle.forms.proofs.Lists.{replaced_none, replaced_more, replaced_all}
 use Rattle.group_transforms.proofs.Ends.{place_in}
 use Rattle.group_transforms.proofs.taken.Goals as goal
 use Rattle.group_transforms.proofs.taken.Goals.{In-loop-j}

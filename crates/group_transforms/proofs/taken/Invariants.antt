@@ -1,9 +1,8 @@
 -- After j turns the words below j are there.
 -- Assumes nothing.
-use Rattle.std.proofs.Common.{◌≡◌, ℕ, ◌+◌, ◌-◌, ◌*◌, ◌%◌, ◌<◌, ◌≤◌, get_or, refl, ap, ◌∙◌, mod-eq_of_lt, arith, rules}
+use Rattle.std.proofs.Common.{◌+◌, ◌-◌, ◌*◌, ◌%◌, ◌≤◌, get_or}
 use Rattle.forms.specs.Words.{rotl}
-use Rattle.forms.proofs.Lists.{Replaced, replaced_none, replaced_more, replaced_all}
-use Rattle.group_transforms.proofs.Ends.{place_in}
+use Rattle.forms.proofs.Lists.{Replaced}
 use Rattle.group_transforms.proofs.taken.Given as goal
 
 abbrev pub invariant-loop-j : goal.invariant-loop-j

@@ -1,9 +1,8 @@
 -- After i turns the words below i are there.
 -- Assumes nothing.
-use Rattle.std.proofs.Common.{◌≡◌, ℕ, ◌+◌, ◌-◌, ◌%◌, ◌<◌, ◌≤◌, get_or, refl, ap, ◌∙◌, arith, rules}
-use Rattle.forms.proofs.Lists.{Replaced, replaced_none, replaced_more, replaced_all}
+use Rattle.std.proofs.Common.{◌≡◌, ℕ, ◌+◌, ◌-◌, ◌%◌, ◌<◌, get_or, refl, ap, ◌∙◌, arith}
+use Rattle.forms.proofs.Lists.{replaced_none, replaced_more, replaced_all}
 use Rattle.labyrinth.specs.Blocks.{minus}
-use Rattle.labyrinth.specs.Groups.{spaced_sub}
 use Rattle.group_transforms.proofs.unkeyed_1.Goals as goal
 
 pub loop-i-init : goal.loop-i-init

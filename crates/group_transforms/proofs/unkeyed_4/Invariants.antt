@@ -1,7 +1,7 @@
 -- After i turns the words below i are there.
 -- Assumes nothing.
-use Rattle.std.proofs.Common.{◌≡◌, ℕ, ◌+◌, ◌-◌, ◌%◌, ◌<◌, ◌≤◌, get_or, refl, ap, ◌∙◌, arith, rules}
-use Rattle.forms.proofs.Lists.{Replaced, replaced_none, replaced_more, replaced_all}
+use Rattle.std.proofs.Common.{◌+◌, ◌-◌, ◌%◌, ◌≤◌, get_or}
+use Rattle.forms.proofs.Lists.{Replaced}
 use Rattle.labyrinth.specs.Blocks.{minus}
 use Rattle.labyrinth.specs.Groups.{spaced_sub}
 use Rattle.group_transforms.proofs.unkeyed_4.Given as goal

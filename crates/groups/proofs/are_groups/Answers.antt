@@ -2,9 +2,8 @@
 -- Assumes nothing.
 use mathlib.Core.Path.{◌≡◌, refl, sym, ◌∙◌}
 use mathlib.Core.Bool.{true}
-use Prim.Native.Nat.{ℕ, ◌%◌}
-use borrow.Author.Tests.{not-true, not-false, eq-eqb, ne_eqb}
-use borrow.Author.Rules.{rules}
+use Prim.Native.Nat.{◌%◌}
+use borrow.Author.Tests.{eq-eqb, ne_eqb}
 use Rattle.labyrinth.specs.Refusals.{legal}
 use Rattle.groups.proofs.are_groups.Goals as goal
 use Rattle.groups.proofs.are_groups.Goals.{Else-not-is_legal}

@@ -1,15 +1,12 @@
 -- The groups before `at` are written; those from there on still stand in the destination, and make the rest.
 -- Assumes nothing.
 use mathlib.Core.Path.{◌≡◌, refl, sym, ap, ◌∙◌}
-use mathlib.Core.List.{List}
 use Prim.Native.Nat.{ℕ, ◌+◌, ◌-◌, ◌*◌, ◌≤◌, ◌<◌, ◌%◌}
 use native.Mathlib.Omega.{arith}
-use lib.ListN.{length, take, drop}
-use borrow.Author.Rules.{rules}
+use lib.ListN.{length}
 use Rattle.forms.specs.Lists.{when}
 use Rattle.forms.proofs.Parts.{part_length}
-use Rattle.forms.proofs.EachBlock.{Kept, kept_first, kept_last, read_length}
-use Rattle.labyrinth.specs.Groups.{wide_lent}
+use Rattle.forms.proofs.EachBlock.{kept_first, kept_last, read_length}
 use Rattle.groups.proofs.Turns.{group_start, group_next}
 use Rattle.groups.proofs.each_group.Goals as goal
 use Rattle.groups.proofs.each_group.Goals.{In-loop-at, Start}

@@ -1,9 +1,6 @@
 -- The words of what is given.
 -- Assumes nothing.
-use mathlib.Core.Path.{◌≡◌, ap, ◌∙◌, refl}
-use mathlib.Core.List.{List}
-use Prim.Native.Nat.{ℕ}
-use borrow.Author.Rules.{rules}
+use mathlib.Core.Path.{ap, ◌∙◌, refl}
 use Rattle.forms.specs.Words.{words}
 use Rattle.forms.proofs.Booleans.{when_chosen, when_spared}
 use Rattle.groups.proofs.given_words.Goals as goal

@@ -1,10 +1,9 @@
 -- Each n by its own text.
 -- Assumes nothing.
-use mathlib.Core.Path.{◌≡◌, sym, ap, ◌∙◌}
+use mathlib.Core.Path.{sym, ap, ◌∙◌}
 use mathlib.Core.Bool.{true}
 use mathlib.Core.List.{List}
 use Prim.Native.Nat.{ℕ}
-use borrow.Author.Rules.{rules}
 use Rattle.labyrinth.specs.Working.{lookup_in}
 use Rattle.labyrinth.specs.Groups.{besides, apart, joined, spaced_sub, line_by}
 use Rattle.labyrinth.proofs.Ends.{is_four}

@@ -1,7 +1,6 @@
 -- The three phases.
 -- Assumes nothing.
-use mathlib.Core.Path.{◌≡◌, refl, ap, ◌∙◌}
-use borrow.Author.Rules.{rules}
+use mathlib.Core.Path.{refl, ap, ◌∙◌}
 use Rattle.labyrinth.specs.Groups.{joined}
 use Rattle.labyrinth.proofs.Sizes.{size_four}
 use Rattle.labyrinth.proofs.GroupLines.{group_phases}

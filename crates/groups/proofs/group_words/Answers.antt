@@ -1,13 +1,11 @@
 -- The words below i have been read.
 -- Assumes nothing.
-use mathlib.Core.Path.{◌≡◌, refl, ◌∙◌}
-use Prim.Native.Nat.{ℕ, ◌+◌, ◌-◌, ◌*◌, ◌≤◌}
+use mathlib.Core.Path.{refl, ◌∙◌}
+use Prim.Native.Nat.{◌-◌, ◌*◌}
 use native.Mathlib.Omega.{arith}
-use lib.ListN.{length}
-use borrow.Author.Rules.{rules}
-use Rattle.forms.proofs.Lists.{Replaced, replaced_none, replaced_more}
+use Rattle.forms.proofs.Lists.{replaced_none, replaced_more}
 use Rattle.buffers.proofs.Words.{word_at_lem}
-use Rattle.groups.proofs.Words.{word_in, words_taken}
+use Rattle.groups.proofs.Words.{words_taken}
 use Rattle.groups.proofs.group_words.Goals as goal
 
 -- src/lib.rt:23:5

@@ -1,13 +1,10 @@
 -- The words below i have been read.
 -- Assumes nothing.
-use mathlib.Core.Path.{◌≡◌, refl, ◌∙◌}
-use Prim.Native.Nat.{ℕ, ◌+◌, ◌-◌, ◌*◌, ◌≤◌}
-use native.Mathlib.Omega.{arith}
+use mathlib.Core.Path.{◌≡◌}
+use Prim.Native.Nat.{◌-◌, ◌≤◌}
 use lib.ListN.{length}
-use borrow.Author.Rules.{rules}
-use Rattle.forms.proofs.Lists.{Replaced, replaced_none, replaced_more}
-use Rattle.buffers.proofs.Words.{word_at_lem}
-use Rattle.groups.proofs.Words.{word_in, words_taken}
+use Rattle.forms.proofs.Lists.{Replaced}
+use Rattle.groups.proofs.Words.{word_in}
 use Rattle.groups.proofs.group_words.Given as goal
 
 abbrev pub invariant-loop-i : goal.invariant-loop-i

@@ -1,14 +1,10 @@
 -- The first i words are put, and the others still stand.
 -- Assumes nothing.
 use mathlib.Core.Path.{◌≡◌, refl, ap, ◌∙◌}
-use mathlib.Core.List.{◌++◌}
-use Prim.Native.Nat.{ℕ, ◌+◌, ◌-◌, ◌*◌, ◌≤◌}
+use Prim.Native.Nat.{ℕ, ◌-◌}
 use native.Mathlib.Omega.{arith}
 use lib.Bits.{bit_xor}
-use lib.ListN.{length, get_or, take, drop}
-use borrow.Author.Rules.{rules}
-use Rattle.forms.specs.Words.{bytes}
-use Rattle.forms.specs.Strings.{xor_bytes}
+use lib.ListN.{get_or}
 use Rattle.groups.proofs.Words.{put_more, put_all}
 use Rattle.groups.proofs.put_words.Goals as goal
 

@@ -1,10 +1,6 @@
 -- What is given, as words, mapped and put under the mask.
 -- Assumes nothing.
-use mathlib.Core.Path.{◌≡◌, sym, ◌∙◌}
-use mathlib.Core.List.{List}
-use Prim.Native.Nat.{ℕ}
-use native.Mathlib.Omega.{arith}
-use borrow.Author.Rules.{rules}
+use mathlib.Core.Path.{sym, ◌∙◌}
 use Rattle.forms.proofs.EachBlock.{read_length}
 use Rattle.groups.proofs.Turns.{side_made}
 use Rattle.groups.proofs.side_by_side.Goals as goal

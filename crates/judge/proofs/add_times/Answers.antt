@@ -2,7 +2,6 @@
 -- Assumes nothing.
 use Rattle.judge.proofs.Elimination.{sum_of_words}
 use Rattle.rows.proofs.Ring.{given_row}
-use borrow.Author.Rules.{rules}
 use mathlib.Core.Path.{◌∙◌}
 use Rattle.judge.proofs.add_times.Goals as goal
 

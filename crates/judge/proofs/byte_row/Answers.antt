@@ -8,7 +8,6 @@ use lib.ListN.{get_or}
 use Rattle.field.specs.Mixing.{dot, mix_by}
 use Rattle.field.proofs.Mixing.{byte_mix_by}
 use Rattle.judge.proofs.Elimination.{sixteen_low, sixteen_high}
-use borrow.Author.Rules.{rules}
 use Rattle.judge.proofs.byte_row.Goals as goal
 
 pub returns-then-z-lt8 : goal.returns-then-z-lt8

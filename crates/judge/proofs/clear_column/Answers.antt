@@ -1,14 +1,13 @@
 -- After i turns the rows below i are cleared.
 -- Assumes nothing.
-use mathlib.Core.Path.{◌≡◌, refl}
+use mathlib.Core.Path.{refl}
 use mathlib.Core.List.{[]}
-use Prim.Native.Nat.{ℕ, ◌≤◌, ◌<◌, ◌-◌}
+use Prim.Native.Nat.{◌-◌}
 use native.Mathlib.Nat.{not-suc-le-zero}
 use native.Mathlib.Omega.{arith}
-use lib.ListN.{get_or, length, length-set}
-use borrow.Author.Rules.{rules}
+use lib.ListN.{length-set}
 use Rattle.forms.proofs.Lists.{get_or_filled, tabulated}
-use Rattle.judge.specs.Elimination.{combined, cleared}
+use Rattle.judge.specs.Elimination.{cleared}
 use Rattle.judge.proofs.clear_column.Goals as goal
 
 pub loop-i-init : goal.loop-i-init

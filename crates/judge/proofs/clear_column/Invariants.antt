@@ -1,14 +1,10 @@
 -- After i turns the rows below i are cleared.
 -- Assumes nothing.
-use mathlib.Core.Path.{◌≡◌, refl}
+use mathlib.Core.Path.{◌≡◌}
 use mathlib.Core.List.{[]}
 use Prim.Native.Nat.{ℕ, ◌≤◌, ◌<◌, ◌-◌}
-use native.Mathlib.Nat.{not-suc-le-zero}
-use native.Mathlib.Omega.{arith}
-use lib.ListN.{get_or, length, length-set}
-use borrow.Author.Rules.{rules}
-use Rattle.forms.proofs.Lists.{get_or_filled, tabulated}
-use Rattle.judge.specs.Elimination.{combined, cleared}
+use lib.ListN.{get_or, length}
+use Rattle.judge.specs.Elimination.{combined}
 use Rattle.judge.proofs.clear_column.Given as goal
 
 abbrev pub invariant-loop-i : goal.invariant-loop-i

@@ -8,7 +8,6 @@ use Rattle.field.specs.Mixing.{matrix}
 use Rattle.rows.specs.Inverse.{constant_row, neutral}
 use Rattle.judge.specs.Elimination.{Found}
 use Rattle.judge.proofs.Counts.{judged}
-use borrow.Author.Rules.{rules}
 use Rattle.judge.proofs.judge.Goals as goal
 
 pub returns : goal.returns

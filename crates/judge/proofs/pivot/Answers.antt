@@ -1,13 +1,10 @@
 -- The elements below p are zero.
 -- Assumes nothing.
-use mathlib.Core.Path.{◌≡◌}
-use Prim.Native.Nat.{ℕ, ◌≤◌, ◌<◌, ◌-◌}
+use Prim.Native.Nat.{◌-◌}
 use native.Mathlib.Omega.{arith}
-use lib.ListN.{get_or}
 use borrow.Author.Count.{below_more}
 use Rattle.rows.specs.Inverse.{Row}
 use Rattle.rows.proofs.Ring.{given_row}
-use borrow.Author.Rules.{rules}
 use Rattle.judge.proofs.pivot.Goals as goal
 use Rattle.judge.proofs.pivot.Goals.{Start}
 

@@ -2,12 +2,7 @@
 -- Assumes nothing.
 use mathlib.Core.Path.{◌≡◌}
 use Prim.Native.Nat.{ℕ, ◌≤◌, ◌<◌, ◌-◌}
-use native.Mathlib.Omega.{arith}
 use lib.ListN.{get_or}
-use borrow.Author.Count.{below_more}
-use Rattle.rows.specs.Inverse.{Row}
-use Rattle.rows.proofs.Ring.{given_row}
-use borrow.Author.Rules.{rules}
 use Rattle.judge.proofs.pivot.Given as goal
 
 abbrev pub invariant-loop-p : goal.invariant-loop-p

@@ -7,7 +7,6 @@ use lib.ListN.{get_or, replicate}
 use Rattle.rows.specs.Inverse.{reciprocal}
 use Rattle.judge.specs.Elimination.{combined, cleared, Restricted}
 use Rattle.judge.proofs.Elimination.{restricted_none, restricted_some}
-use borrow.Author.Rules.{rules}
 use Rattle.judge.proofs.restrict.Goals as goal
 
 pub returns-then-p-ge8 : goal.returns-then-p-ge8

@@ -1,14 +1,11 @@
 -- After k turns the row is the sum of the first k rows of the matrix, each multiplied by its element.
 -- Assumes nothing.
 use mathlib.Core.Path.{◌≡◌, refl, ap, ◌∙◌}
-use mathlib.Core.List.{List, []}
-use Prim.Native.Nat.{ℕ, ◌≤◌, ◌-◌}
+use mathlib.Core.List.{List}
+use Prim.Native.Nat.{ℕ, ◌-◌}
 use native.Mathlib.Omega.{arith}
-use lib.ListN.{get_or}
-use borrow.Author.Rules.{rules}
 use Rattle.forms.specs.Lists.{xor_sum}
 use Rattle.forms.proofs.Sums.{xor_sum_next, xor_sum_end}
-use Rattle.field.specs.Field.{mul}
 use Rattle.field.specs.Mixing.{dot}
 use Rattle.judge.proofs.Elimination.{dot_combined, dot_zero_row, times_matrix}
 use Rattle.judge.proofs.row_times.Goals as goal

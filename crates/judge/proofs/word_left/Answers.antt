@@ -1,13 +1,9 @@
 -- The rows below i are zeros; an element that isn't makes its column a word.
 -- Assumes nothing.
-use mathlib.Core.Path.{◌≡◌}
-use mathlib.Core.List.{[]}
-use Prim.Native.Nat.{ℕ, ◌≤◌, ◌<◌, ◌-◌}
+use Prim.Native.Nat.{◌<◌, ◌-◌}
 use native.Mathlib.Omega.{arith}
-use lib.ListN.{get_or}
 use borrow.Author.Count.{below_more}
 use Rattle.judge.proofs.Elimination.{left_none, left_some}
-use borrow.Author.Rules.{rules}
 use Rattle.judge.proofs.word_left.Goals as goal
 
 pub loop-i-init : goal.loop-i-init

@@ -3,11 +3,7 @@
 use mathlib.Core.Path.{◌≡◌}
 use mathlib.Core.List.{[]}
 use Prim.Native.Nat.{ℕ, ◌≤◌, ◌<◌, ◌-◌}
-use native.Mathlib.Omega.{arith}
 use lib.ListN.{get_or}
-use borrow.Author.Count.{below_more}
-use Rattle.judge.proofs.Elimination.{left_none, left_some}
-use borrow.Author.Rules.{rules}
 use Rattle.judge.proofs.word_left.Given as goal
 
 abbrev pub invariant-loop-i : goal.invariant-loop-i

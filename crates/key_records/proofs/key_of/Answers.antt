@@ -3,7 +3,6 @@
 use mathlib.Core.Path.{◌≡◌}
 use mathlib.Core.List.{List}
 use Prim.Native.Nat.{ℕ}
-use borrow.Author.Rules.{rules}
 use Rattle.labyrinth.specs.declared.WorkingKey.{WorkingKey}
 use Rattle.records.specs.Records.{key_in}
 use Rattle.key_records.proofs.key_of.Goals as goal

@@ -1,6 +1,5 @@
 -- n, the set and the words, in a buffer of the key's length.
 -- Assumes nothing.
-use borrow.Author.Rules.{rules}
 use Rattle.forms.proofs.Whole.{not_written}
 use Rattle.key_records.proofs.Parts.{key_written}
 use Rattle.key_records.proofs.put_key.Goals as goal

@@ -2,7 +2,6 @@
 -- Assumes nothing.
 use mathlib.Core.Path.{◌∙◌}
 use Rattle.buffers.proofs.Words.{with_word_lem}
-use borrow.Author.Rules.{rules}
 use Rattle.key_records.proofs.put_number.Goals as goal
 
 -- src/lib.rt:25:1

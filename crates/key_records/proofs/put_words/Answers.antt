@@ -2,9 +2,9 @@
 -- Assumes nothing.
 use mathlib.Core.Path.{◌≡◌, refl, ap, ◌∙◌}
 use mathlib.Core.List.{List, ◌++◌, append-nil}
-use Prim.Native.Nat.{ℕ, ◌≤◌, ◌+◌, ◌-◌, ◌*◌}
+use Prim.Native.Nat.{ℕ, ◌+◌, ◌-◌, ◌*◌}
 use native.Mathlib.Omega.{arith}
-use lib.ListN.{length, take, drop_of_length-le}
+use lib.ListN.{take, drop_of_length-le}
 use borrow.Author.Rules.{rules}
 use Rattle.forms.specs.Lists.{tabulate}
 use Rattle.forms.specs.Words.{bytes}

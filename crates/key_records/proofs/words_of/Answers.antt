@@ -1,12 +1,10 @@
 -- The words below j have come in.
 -- Assumes nothing.
-use mathlib.Core.Path.{◌≡◌, refl}
-use Prim.Native.Nat.{◌≤◌, ◌+◌, ◌-◌, ◌*◌}
+use mathlib.Core.Path.{refl}
+use Prim.Native.Nat.{◌-◌}
 use native.Mathlib.Omega.{arith}
-use lib.ListN.{length}
 use borrow.Author.Rules.{rules}
-use Rattle.forms.proofs.Lists.{Replaced, replaced_none, replaced_more, replaced_all}
-use Rattle.buffers.specs.Words.{word_at}
+use Rattle.forms.proofs.Lists.{replaced_none, replaced_more, replaced_all}
 use Rattle.key_records.proofs.words_of.Goals as goal
 
 -- src/lib.rt:40:5

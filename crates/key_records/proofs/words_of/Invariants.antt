@@ -1,11 +1,9 @@
 -- The words below j have come in.
 -- Assumes nothing.
-use mathlib.Core.Path.{◌≡◌, refl}
+use mathlib.Core.Path.{◌≡◌}
 use Prim.Native.Nat.{◌≤◌, ◌+◌, ◌-◌, ◌*◌}
-use native.Mathlib.Omega.{arith}
 use lib.ListN.{length}
-use borrow.Author.Rules.{rules}
-use Rattle.forms.proofs.Lists.{Replaced, replaced_none, replaced_more, replaced_all}
+use Rattle.forms.proofs.Lists.{Replaced}
 use Rattle.buffers.specs.Words.{word_at}
 use Rattle.key_records.proofs.words_of.Given as goal
 

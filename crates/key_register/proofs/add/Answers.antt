@@ -6,7 +6,6 @@ use native.Mathlib.Omega.{arith}
 use lib.ListN.{length}
 use Rattle.registers.specs.Registers.{extended}
 use Rattle.registers.proofs.Refusals.{room_count, add_refused, add_done}
-use borrow.Author.Rules.{rules}
 use Rattle.key_register.proofs.add.Goals as goal
 use Rattle.key_register.proofs.add.Goals.{Else-refusal-ne0, Start}
 

@@ -4,13 +4,12 @@ use mathlib.Core.Path.{◌≡◌, sym, ap, ap₂, ◌∙◌}
 use mathlib.Core.Bool.{Bool}
 use Prim.Native.Nat.{ℕ}
 use native.Mathlib.Omega.{arith}
-use borrow.Author.Tests.{not-true, not-false, lt-ltb, le-ltb}
+use borrow.Author.Tests.{lt-ltb, le-ltb}
 use lib.Dec.{ltb}
 use lib.ListN.{length}
 use Rattle.forms.specs.Refusals.{unless}
 use Rattle.registers.specs.Registers.{held, replaceable, add_refusal}
 use Rattle.registers.proofs.Entries.{held_long}
-use borrow.Author.Rules.{rules}
 use Rattle.key_register.proofs.add_refusal.Goals as goal
 use Rattle.key_register.proofs.add_refusal.Goals.{Else-not-is_replaceable, Start}
 

@@ -5,7 +5,6 @@ use lib.ListN.{replicate}
 use Rattle.registers.specs.declared.Entry.{Entry}
 use Rattle.registers.specs.declared.Register.{Register}
 use Rattle.registers.specs.Registers.{empty}
-use borrow.Author.Rules.{rules}
 use Rattle.key_register.proofs.empty.Goals as goal
 
 pub returns : goal.returns

@@ -1,17 +1,13 @@
 -- What was passed by doesn't pass the test.
 -- Assumes nothing.
 use mathlib.Core.Path.{◌≡◌, refl, sym, ap, ◌∙◌}
-use mathlib.Core.Bool.{Bool}
-use Prim.Native.Nat.{ℕ, ◌-◌}
+use Prim.Native.Nat.{◌-◌}
 use native.Mathlib.Numerals.{add-one}
 use native.Mathlib.Omega.{arith}
-use lib.ListN.{length, drop}
-use Rattle.forms.specs.Lists.{when, first_from}
+use lib.ListN.{length}
 use Rattle.forms.proofs.Search.{first_hit, first_miss, first_end}
-use Rattle.registers.specs.declared.Entry.{Entry}
-use Rattle.registers.specs.Registers.{blank, held, entry_at, has_number, replaces_number}
+use Rattle.registers.specs.Registers.{blank, held, entry_at}
 use Rattle.registers.proofs.Entries.{held_long, read_held}
-use borrow.Author.Rules.{rules}
 use Rattle.key_register.proofs.first_from.Goals as goal
 use Rattle.key_register.proofs.first_from.Goals.{After-passes, Start}
 use Rattle.key_register.proofs.first_from.Invariants.{test}

@@ -1,17 +1,12 @@
 -- What was passed by doesn't pass the test.
 -- Assumes nothing.
-use mathlib.Core.Path.{◌≡◌, refl, sym, ap, ◌∙◌}
+use mathlib.Core.Path.{◌≡◌}
 use mathlib.Core.Bool.{Bool}
 use Prim.Native.Nat.{ℕ, ◌-◌}
-use native.Mathlib.Numerals.{add-one}
-use native.Mathlib.Omega.{arith}
-use lib.ListN.{length, drop}
+use lib.ListN.{drop}
 use Rattle.forms.specs.Lists.{when, first_from}
-use Rattle.forms.proofs.Search.{first_hit, first_miss, first_end}
 use Rattle.registers.specs.declared.Entry.{Entry}
-use Rattle.registers.specs.Registers.{blank, held, entry_at, has_number, replaces_number}
-use Rattle.registers.proofs.Entries.{held_long, read_held, unmapped}
-use borrow.Author.Rules.{rules}
+use Rattle.registers.specs.Registers.{held, has_number, replaces_number}
 use Rattle.key_register.proofs.first_from.Given as goal
 
 -- what is searched for

@@ -1,14 +1,13 @@
 -- What the later entries add to the chain, as they are passed.
 -- Assumes nothing.
 use mathlib.Core.Path.{◌≡◌, sym, ap, ◌∙◌, subst}
-use Prim.Native.Nat.{◌+◌, ◌≤◌, ◌<◌, ◌-◌, min}
+use Prim.Native.Nat.{◌+◌, ◌-◌, min}
 use native.Mathlib.Omega.{arith}
 use lib.ListN.{length}
 use Rattle.registers.specs.declared.Entry.{Entry}
 use Rattle.registers.specs.Registers.{held, replaces_number}
 use Rattle.registers.proofs.Entries.{held_long, read_held}
 use Rattle.key_register.proofs.Following.{Followed, followed_none, followed_hit, followed_miss, followed_all, followed_at}
-use borrow.Author.Rules.{rules}
 use Rattle.key_register.proofs.follow.Goals as goal
 use Rattle.key_register.proofs.follow.Goals.{Start, then-passes, else-passes}
 

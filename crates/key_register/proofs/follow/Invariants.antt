@@ -1,15 +1,8 @@
 -- What the later entries add to the chain, as they are passed.
 -- Assumes nothing.
-use mathlib.Core.Path.{◌≡◌, sym, ap, ◌∙◌, subst}
-use mathlib.Core.Logic.{⊎_elim}
-use Prim.Native.Nat.{◌+◌, ◌≤◌, ◌<◌, ◌-◌, min}
-use native.Mathlib.Omega.{arith}
-use lib.ListN.{length}
-use Rattle.registers.specs.declared.Entry.{Entry}
-use Rattle.registers.specs.Registers.{held, replaces_number}
-use Rattle.registers.proofs.Entries.{held_long, read_held, unmapped}
-use Rattle.key_register.proofs.Following.{Followed, followed_none, followed_hit, followed_miss, followed_all, followed_at}
-use borrow.Author.Rules.{rules}
+use Prim.Native.Nat.{◌≤◌, ◌<◌, ◌-◌}
+use Rattle.registers.specs.Registers.{held}
+use Rattle.key_register.proofs.Following.{Followed}
 use Rattle.key_register.proofs.follow.Given as goal
 
 abbrev pub invariant-loop-i : goal.invariant-loop-i

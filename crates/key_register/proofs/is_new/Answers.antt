@@ -4,7 +4,6 @@ use mathlib.Core.Path.{sym, ap, ◌∙◌}
 use mathlib.Core.Bool.{Bool, not, ◌||◌}
 use borrow.Author.Tests.{eq-eqb, ne_eqb}
 use Rattle.registers.specs.Registers.{held, present, new}
-use borrow.Author.Rules.{rules}
 use Rattle.key_register.proofs.is_new.Goals as goal
 
 pub returns-then-number-eq0 : goal.returns-then-number-eq0

@@ -2,9 +2,8 @@
 -- Assumes nothing.
 use mathlib.Core.Path.{sym, ap, ap₂, ◌∙◌}
 use mathlib.Core.Bool.{Bool, not, ◌&&◌, ◌||◌}
-use borrow.Author.Tests.{eq-eqb, ne_eqb, not-true, not-false}
+use borrow.Author.Tests.{eq-eqb, ne_eqb}
 use Rattle.registers.specs.Registers.{held, present, replaced, replaceable}
-use borrow.Author.Rules.{rules}
 use Rattle.key_register.proofs.is_replaceable.Goals as goal
 
 pub returns-then-number-eq0 : goal.returns-then-number-eq0

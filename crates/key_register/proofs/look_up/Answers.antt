@@ -13,7 +13,6 @@ use Rattle.registers.specs.Registers.{blank, held, entry_at, has_number, place, 
 use Rattle.registers.proofs.Entries.{held_long, read_held}
 use Rattle.registers.proofs.Refusals.{look_up_refused, look_up_done}
 use Rattle.registers.proofs.Chains.{current_within}
-use borrow.Author.Rules.{rules}
 use Rattle.key_register.proofs.look_up.Goals as goal
 use Rattle.key_register.proofs.look_up.Goals.{After-follow-end, After-size, Else-size-start, Start}
 

@@ -4,7 +4,6 @@ use mathlib.Core.Path.{sym, ap, ◌∙◌}
 use mathlib.Core.Bool.{Bool}
 use Rattle.forms.specs.Lists.{when}
 use Rattle.registers.specs.Registers.{has_number, replaces_number}
-use borrow.Author.Rules.{rules}
 use Rattle.key_register.proofs.passes.Goals as goal
 
 pub returns-then-replaced : goal.returns-then-replaced

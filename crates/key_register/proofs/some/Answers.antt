@@ -7,7 +7,6 @@ use Rattle.forms.specs.Lists.{when}
 use Rattle.forms.proofs.Search.{any_first}
 use Rattle.registers.specs.Registers.{blank, held, has_number, replaces_number}
 use Rattle.registers.proofs.Entries.{held_long}
-use borrow.Author.Rules.{rules}
 use Rattle.key_register.proofs.some.Goals as goal
 use Rattle.key_register.proofs.some.Goals.{Start}
 

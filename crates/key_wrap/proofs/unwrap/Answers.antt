@@ -5,13 +5,12 @@ use mathlib.Core.Bool.{Bool, true}
 use mathlib.Core.List.{List}
 use Prim.Native.Nat.{ℕ}
 use lib.ListN.{length}
-use borrow.Author.Rules.{rules}
 use Rattle.forms.proofs.Refusals.{refused_keeps}
 use Rattle.labyrinth.specs.Cipher.{Parts}
 use Rattle.labyrinth.specs.Keys.{U}
 use Rattle.labyrinth.specs.Refusals.{under_key}
 use Rattle.labyrinth.proofs.Refusals.{under_refused}
-use Rattle.sets.specs.Sets.{loaded, parts_in}
+use Rattle.sets.specs.Sets.{loaded}
 use Rattle.sets.proofs.Sets.{parts_zero, published_answer}
 use Rattle.sets.proofs.Lent.{Made, set_made, set_by_one, set_run}
 use Rattle.modes.specs.KeyWrap.{authentic, unwrapped}

@@ -5,7 +5,6 @@ use mathlib.Core.Bool.{true}
 use mathlib.Core.List.{List}
 use Prim.Native.Nat.{ℕ}
 use lib.ListN.{length}
-use borrow.Author.Rules.{rules}
 use Rattle.labyrinth.specs.Lent.{ArticlePrepared}
 use Rattle.labyrinth.proofs.Lent.{article_by_one, article_run_by_one}
 use Rattle.modes.specs.KeyWrap.{authentic, unwrapped}

@@ -3,7 +3,6 @@
 use mathlib.Core.Bool.{false}
 use mathlib.Core.List.{List}
 use Prim.Native.Nat.{ℕ}
-use borrow.Author.Rules.{rules}
 use Rattle.labyrinth.specs.Lent.{ArticlePrepared}
 use Rattle.labyrinth.proofs.Lent.{article_run_by_one}
 use Rattle.modes.specs.KeyWrap.{wrapped}

@@ -1,7 +1,6 @@
 -- The key is laid behind the place of A, the steps work there, and A is laid before.
 -- Assumes nothing.
 use mathlib.Core.Path.{refl}
-use borrow.Author.Rules.{rules}
 use Rattle.labyrinth.specs.Lent.{lent}
 use Rattle.key_wrap_lent.proofs.Keys.{wrap_made}
 use Rattle.key_wrap_lent.proofs.wrap_into.Goals as goal

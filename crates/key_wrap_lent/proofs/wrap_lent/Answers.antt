@@ -2,10 +2,7 @@
 -- Assumes nothing.
 use mathlib.Core.Path.{sym, ap, ◌∙◌}
 use Prim.Native.Nat.{ℕ}
-use native.Mathlib.Omega.{arith}
 use lib.ListN.{length}
-use borrow.Author.Rules.{rules}
-use Rattle.forms.specs.Refusals.{outcome}
 use Rattle.forms.proofs.Refusals.{refused_keeps}
 use Rattle.labyrinth.specs.Lent.{lent}
 use Rattle.modes.specs.KeyWrap.{wrapped}

@@ -5,7 +5,6 @@ use mathlib.Core.List.{List, ◌++◌}
 use Prim.Native.Nat.{ℕ}
 use native.Mathlib.Omega.{arith}
 use lib.ListN.{length, take, drop, replicate, length-append}
-use borrow.Author.Rules.{rules}
 use Rattle.labyrinth.specs.Lent.{lent}
 use Rattle.labyrinth.proofs.Sizes.{size_one}
 use Rattle.labyrinth.proofs.Lent.{table_lendable, lent_block, lent_length}

@@ -1,15 +1,10 @@
 -- A step up to a place, and the place goes back.
 -- Assumes nothing.
 use mathlib.Core.Path.{◌∙◌}
-use mathlib.Core.List.{◌++◌}
-use Prim.Native.Nat.{ℕ, ◌-◌, ◌≤◌}
+use Prim.Native.Nat.{◌-◌, ◌≤◌}
 use native.Mathlib.Omega.{arith}
-use lib.ListN.{length}
-use borrow.Author.Rules.{rules}
 use Rattle.forms.proofs.Parts.{part_length}
-use Rattle.labyrinth.specs.Lent.{lent}
-use Rattle.modes.specs.KeyWrap.{unwrap_steps}
-use Rattle.key_wrap_steps.proofs.Rounds.{Unwrapping, unwrap_first, unwrap_room, unwrap_count, unwrap_next, unwrap_last}
+use Rattle.key_wrap_steps.proofs.Rounds.{unwrap_first, unwrap_room, unwrap_count, unwrap_next, unwrap_last}
 use Rattle.key_wrap_steps.proofs.unwrap_round.Goals as goal
 use Rattle.key_wrap_steps.proofs.unwrap_round.Goals.{In-loop-end}
 

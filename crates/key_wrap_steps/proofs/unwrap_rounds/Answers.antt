@@ -1,13 +1,7 @@
 -- Six rounds, from the last to the first.
 -- Assumes nothing.
-use mathlib.Core.List.{◌++◌}
-use Prim.Native.Nat.{ℕ}
 use native.Mathlib.Omega.{arith}
-use lib.ListN.{length}
-use borrow.Author.Rules.{rules}
-use Rattle.labyrinth.specs.Lent.{lent}
-use Rattle.modes.specs.KeyWrap.{W⁻¹}
-use Rattle.key_wrap_steps.proofs.Rounds.{Unwrapped, unwrapped_first, unwrapped_room, unwrapped_next, unwrapped_last}
+use Rattle.key_wrap_steps.proofs.Rounds.{unwrapped_first, unwrapped_room, unwrapped_next, unwrapped_last}
 use Rattle.key_wrap_steps.proofs.unwrap_rounds.Goals as goal
 
 pub overflow_cast-count : goal.overflow_cast-count

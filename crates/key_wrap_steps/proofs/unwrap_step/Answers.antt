@@ -3,7 +3,6 @@
 use mathlib.Core.Path.{ap, ◌∙◌}
 use mathlib.Core.List.{List, ◌++◌}
 use Prim.Native.Nat.{ℕ}
-use borrow.Author.Rules.{rules}
 use Rattle.labyrinth.specs.Lent.{lent}
 use Rattle.modes.specs.KeyWrap.{MSB64, LSB64}
 use Rattle.key_wrap_steps.proofs.unwrap_step.Goals as goal

@@ -1,7 +1,6 @@
 -- A refusal leaves both; else the rounds are made.
 -- Assumes nothing.
 use mathlib.Core.Path.{sym, ◌∙◌}
-use borrow.Author.Rules.{rules}
 use Rattle.forms.proofs.Refusals.{refused_keeps}
 use Rattle.key_wrap_steps.proofs.Refusals.{steps_taken}
 use Rattle.key_wrap_steps.proofs.w.Goals as goal

@@ -1,13 +1,10 @@
 -- A step at a place, and the place goes on.
 -- Assumes nothing.
-use mathlib.Core.List.{◌++◌}
-use Prim.Native.Nat.{ℕ, ◌+◌, ◌-◌, ◌≤◌}
+use Prim.Native.Nat.{◌+◌, ◌-◌, ◌≤◌}
 use native.Mathlib.Omega.{arith}
 use lib.ListN.{length}
-use borrow.Author.Rules.{rules}
 use Rattle.forms.proofs.Parts.{part_length}
-use Rattle.labyrinth.specs.Lent.{lent}
-use Rattle.key_wrap_steps.proofs.Rounds.{Wrapping, wrap_first, wrap_room, wrap_next, wrap_last}
+use Rattle.key_wrap_steps.proofs.Rounds.{wrap_first, wrap_room, wrap_next, wrap_last}
 use Rattle.key_wrap_steps.proofs.wrap_round.Goals as goal
 use Rattle.key_wrap_steps.proofs.wrap_round.Goals.{In-loop-at}
 

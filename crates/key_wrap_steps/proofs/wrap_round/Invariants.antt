@@ -1,13 +1,10 @@
 -- A step at a place, and the place goes on.
 -- Assumes nothing.
 use mathlib.Core.List.{◌++◌}
-use Prim.Native.Nat.{ℕ, ◌+◌, ◌-◌, ◌≤◌}
-use native.Mathlib.Omega.{arith}
+use Prim.Native.Nat.{◌+◌, ◌-◌}
 use lib.ListN.{length}
-use borrow.Author.Rules.{rules}
-use Rattle.forms.proofs.Parts.{part_length}
 use Rattle.labyrinth.specs.Lent.{lent}
-use Rattle.key_wrap_steps.proofs.Rounds.{Wrapping, wrap_first, wrap_room, wrap_next, wrap_last}
+use Rattle.key_wrap_steps.proofs.Rounds.{Wrapping}
 use Rattle.key_wrap_steps.proofs.wrap_round.Given as goal
 
 abbrev pub invariant-loop-at : goal.invariant-loop-at

@@ -1,12 +1,8 @@
 -- Six rounds.
 -- Assumes nothing.
-use mathlib.Core.List.{◌++◌}
-use Prim.Native.Nat.{ℕ, ◌-◌}
+use Prim.Native.Nat.{◌-◌}
 use native.Mathlib.Omega.{arith}
-use lib.ListN.{length}
-use borrow.Author.Rules.{rules}
-use Rattle.labyrinth.specs.Lent.{lent}
-use Rattle.key_wrap_steps.proofs.Rounds.{Wrapped, wrapped_first, wrapped_room, wrapped_next, wrapped_last}
+use Rattle.key_wrap_steps.proofs.Rounds.{wrapped_first, wrapped_room, wrapped_next, wrapped_last}
 use Rattle.key_wrap_steps.proofs.wrap_rounds.Goals as goal
 
 pub overflow_cast-count : goal.overflow_cast-count

@@ -1,12 +1,10 @@
 -- Six rounds.
 -- Assumes nothing.
 use mathlib.Core.List.{◌++◌}
-use Prim.Native.Nat.{ℕ, ◌-◌}
-use native.Mathlib.Omega.{arith}
+use Prim.Native.Nat.{◌-◌}
 use lib.ListN.{length}
-use borrow.Author.Rules.{rules}
 use Rattle.labyrinth.specs.Lent.{lent}
-use Rattle.key_wrap_steps.proofs.Rounds.{Wrapped, wrapped_first, wrapped_room, wrapped_next, wrapped_last}
+use Rattle.key_wrap_steps.proofs.Rounds.{Wrapped}
 use Rattle.key_wrap_steps.proofs.wrap_rounds.Given as goal
 
 abbrev pub invariant-loop-round : goal.invariant-loop-round

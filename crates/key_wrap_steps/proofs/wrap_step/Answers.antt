@@ -3,7 +3,6 @@
 use mathlib.Core.Path.{ap, ◌∙◌}
 use mathlib.Core.List.{List}
 use Prim.Native.Nat.{ℕ}
-use borrow.Author.Rules.{rules}
 use Rattle.forms.specs.Strings.{xor_bytes, string}
 use Rattle.key_wrap_steps.proofs.wrap_step.Goals as goal
 

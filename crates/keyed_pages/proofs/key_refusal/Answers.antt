@@ -1,7 +1,6 @@
 -- n apart from 1, and 1.
 -- Assumes nothing.
 use borrow.Author.Tests.{eq-eqb, ne_eqb}
-use borrow.Author.Rules.{rules}
 use Rattle.keyed_pages.proofs.key_refusal.Goals as goal
 
 pub returns-then-n-ne1 : goal.returns-then-n-ne1

@@ -1,8 +1,6 @@
 -- The checks in their order.
 -- Assumes nothing.
-use mathlib.Core.Path.{◌≡◌, sym, ◌∙◌}
-use borrow.Author.Tests.{not-true, not-false}
-use borrow.Author.Rules.{rules}
+use mathlib.Core.Path.{sym, ◌∙◌}
 use Rattle.labyrinth.specs.Refusals.{under_key}
 use Rattle.labyrinth.proofs.under_key.Goals as goal
 

@@ -1,6 +1,5 @@
 -- Expansion's number and a no, or the answer under the key that it gave.
 -- Assumes nothing.
-use borrow.Author.Rules.{rules}
 use Rattle.one_shot.proofs.OneShot.{verify_refused, verify_passed}
 use Rattle.labyrinth_c.proofs.labyrinth_cmac_verify.Goals as goal
 

@@ -4,12 +4,11 @@ use mathlib.Core.Path.{◌≡◌, refl, sym, ap, ◌∙◌}
 use Prim.Native.Nat.{ℕ, ◌+◌, ◌-◌, ◌*◌, ◌≤◌, ◌%◌}
 use native.Mathlib.Omega.{arith}
 use lib.ListN.{length}
-use borrow.Author.Rules.{rules}
 use Rattle.forms.specs.Lists.{when}
 use Rattle.forms.proofs.Parts.{part_length}
 use Rattle.labyrinth.specs.Lent.{lent}
 use Rattle.labyrinth.proofs.Lent.{lent_length}
-use Rattle.forms.proofs.EachBlock.{Kept, kept_first, kept_block, kept_block_next, kept_last, read_length}
+use Rattle.forms.proofs.EachBlock.{kept_first, kept_block, kept_block_next, kept_last, read_length}
 use Rattle.many_blocks.proofs.by_blocks.Goals as goal
 use Rattle.many_blocks.proofs.by_blocks.Goals.{In-loop-at, Start}
 

@@ -1,15 +1,10 @@
 -- The blocks before `at` are written; those from there on still stand in the destination, and make the rest.
 -- Assumes nothing.
-use mathlib.Core.Path.{◌≡◌, refl, sym, ap, ◌∙◌}
-use Prim.Native.Nat.{ℕ, ◌+◌, ◌-◌, ◌*◌, ◌≤◌, ◌%◌}
-use native.Mathlib.Omega.{arith}
+use Prim.Native.Nat.{◌-◌, ◌*◌}
 use lib.ListN.{length}
-use borrow.Author.Rules.{rules}
 use Rattle.forms.specs.Lists.{when}
-use Rattle.forms.proofs.Parts.{part_length}
 use Rattle.labyrinth.specs.Lent.{lent}
-use Rattle.labyrinth.proofs.Lent.{lent_length}
-use Rattle.forms.proofs.EachBlock.{Kept, kept_first, kept_block, kept_block_next, kept_last, read_length}
+use Rattle.forms.proofs.EachBlock.{Kept}
 use Rattle.many_blocks.proofs.by_blocks.Given as goal
 
 abbrev pub invariant-loop-at : goal.invariant-loop-at

@@ -1,6 +1,5 @@
 -- A refusal leaves the destination; else every block of the source is mapped.
 -- Assumes nothing.
-use borrow.Author.Rules.{rules}
 use Rattle.forms.proofs.Refusals.{refused_keeps}
 use Rattle.many_blocks.proofs.Refusals.{many_taken}
 use Rattle.many_blocks.proofs.map_to.Goals as goal

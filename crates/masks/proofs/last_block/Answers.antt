@@ -5,7 +5,6 @@ use mathlib.Core.List.{List, ◌++◌}
 use Prim.Native.Nat.{ℕ}
 use native.Mathlib.Omega.{arith}
 use lib.ListN.{length, take, drop, replicate}
-use borrow.Author.Rules.{rules}
 use Rattle.forms.specs.Strings.{xor_bytes}
 use Rattle.strings.proofs.Laying.{xor_whole}
 use Rattle.modes.specs.Cmac.{doubled, pad}

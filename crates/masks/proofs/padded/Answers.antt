@@ -7,7 +7,6 @@ use native.Mathlib.Omega.{arith}
 use lib.ListN.{length, take, drop, replicate, drop_of_length-le}
 use lib.Seq.{take_all}
 use Rattle.modes.proofs.Cmac.{pad_short, pad_long}
-use borrow.Author.Rules.{rules}
 use Rattle.masks.proofs.padded.Goals as goal
 
 pub returns-then-size-lt16 : goal.returns-then-size-lt16

@@ -1,12 +1,9 @@
 -- After j turns the sum is that over the bytes below j.
 -- Assumes nothing.
 use mathlib.Core.Path.{◌≡◌, refl, ap₂, ◌∙◌}
-use Prim.Native.Nat.{◌≤◌, ◌-◌}
+use Prim.Native.Nat.{◌-◌}
 use native.Mathlib.Omega.{arith}
-use lib.ListN.{get_or}
-use borrow.Author.Rules.{rules}
 use Rattle.forms.specs.Lists.{xor_sum}
-use Rattle.forms.specs.Words.{byte}
 use Rattle.forms.proofs.Sums.{xor_sum_next, xor_sum_end}
 use Rattle.field.specs.Field.{mul}
 use Rattle.field.specs.Mixing.{dot}

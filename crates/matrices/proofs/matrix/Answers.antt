@@ -1,15 +1,13 @@
 -- After i turns the rows below i are the matrix's.
 -- Assumes nothing.
-use mathlib.Core.Path.{◌≡◌, refl}
+use mathlib.Core.Path.{refl}
 use mathlib.Core.List.{[]}
-use Prim.Native.Nat.{ℕ, ◌≤◌, ◌<◌, ◌-◌}
+use Prim.Native.Nat.{◌-◌}
 use native.Mathlib.Nat.{not-suc-le-zero}
 use native.Mathlib.Omega.{arith}
-use lib.ListN.{get_or, length, length-set}
-use borrow.Author.Rules.{rules}
-use Rattle.forms.specs.Lists.{tabulate}
+use lib.ListN.{length-set}
 use Rattle.forms.proofs.Lists.{get_or_filled, tabulated}
-use Rattle.field.specs.Mixing.{element, matrix}
+use Rattle.field.specs.Mixing.{matrix}
 use Rattle.matrices.proofs.matrix.Goals as goal
 
 pub loop-i-init : goal.loop-i-init

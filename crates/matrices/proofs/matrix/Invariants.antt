@@ -1,15 +1,11 @@
 -- After i turns the rows below i are the matrix's.
 -- Assumes nothing.
-use mathlib.Core.Path.{◌≡◌, refl}
+use mathlib.Core.Path.{◌≡◌}
 use mathlib.Core.List.{[]}
 use Prim.Native.Nat.{ℕ, ◌≤◌, ◌<◌, ◌-◌}
-use native.Mathlib.Nat.{not-suc-le-zero}
-use native.Mathlib.Omega.{arith}
-use lib.ListN.{get_or, length, length-set}
-use borrow.Author.Rules.{rules}
+use lib.ListN.{get_or, length}
 use Rattle.forms.specs.Lists.{tabulate}
-use Rattle.forms.proofs.Lists.{get_or_filled, tabulated}
-use Rattle.field.specs.Mixing.{element, matrix}
+use Rattle.field.specs.Mixing.{element}
 use Rattle.matrices.proofs.matrix.Given as goal
 
 abbrev pub invariant-loop-i : goal.invariant-loop-i

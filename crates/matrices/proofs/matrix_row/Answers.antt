@@ -1,10 +1,9 @@
 -- After j turns the entries below j are the row's.
 -- Assumes nothing.
-use mathlib.Core.Path.{◌≡◌, refl}
-use Prim.Native.Nat.{ℕ, ◌≤◌, ◌<◌, ◌-◌}
+use mathlib.Core.Path.{refl}
+use Prim.Native.Nat.{◌-◌}
 use native.Mathlib.Omega.{arith}
-use lib.ListN.{get_or, length, length-set}
-use borrow.Author.Rules.{rules}
+use lib.ListN.{length-set}
 use Rattle.forms.proofs.Lists.{get_or_filled, tabulated}
 use Rattle.field.specs.Mixing.{element}
 use Rattle.matrices.proofs.matrix_row.Goals as goal

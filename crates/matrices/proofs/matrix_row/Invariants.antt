@@ -1,11 +1,8 @@
 -- After j turns the entries below j are the row's.
 -- Assumes nothing.
-use mathlib.Core.Path.{◌≡◌, refl}
+use mathlib.Core.Path.{◌≡◌}
 use Prim.Native.Nat.{ℕ, ◌≤◌, ◌<◌, ◌-◌}
-use native.Mathlib.Omega.{arith}
-use lib.ListN.{get_or, length, length-set}
-use borrow.Author.Rules.{rules}
-use Rattle.forms.proofs.Lists.{get_or_filled, tabulated}
+use lib.ListN.{get_or, length}
 use Rattle.field.specs.Mixing.{element}
 use Rattle.matrices.proofs.matrix_row.Given as goal
 

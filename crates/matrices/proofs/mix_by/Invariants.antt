@@ -1,13 +1,10 @@
 -- After i turns the word has the bytes below i.
 -- Assumes nothing.
-use mathlib.Core.Path.{◌≡◌, ◌∙◌}
 use mathlib.Core.List.{[]}
 use Prim.Native.Nat.{◌≤◌, ◌-◌}
-use native.Mathlib.Omega.{arith}
 use lib.ListN.{get_or}
-use borrow.Author.Rules.{rules}
-use Rattle.forms.proofs.Words.{Joined, joined_none, joined_more, joined_end}
-use Rattle.field.specs.Mixing.{dot, mix_by}
+use Rattle.forms.proofs.Words.{Joined}
+use Rattle.field.specs.Mixing.{dot}
 use Rattle.matrices.proofs.mix_by.Given as goal
 
 abbrev pub invariant-loop-i : goal.invariant-loop-i

@@ -1,7 +1,6 @@
 -- A refusal leaves the destination; else the three phases are the line.
 -- Assumes nothing.
 use mathlib.Core.Path.{sym, ◌∙◌}
-use borrow.Author.Rules.{rules}
 use Rattle.forms.proofs.Refusals.{refused_keeps}
 use Rattle.labyrinth.specs.Working.{matrix_parts}
 use Rattle.labyrinth.proofs.Sizes.{legal_size}

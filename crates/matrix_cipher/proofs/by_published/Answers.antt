@@ -1,7 +1,6 @@
 -- The substitution and the matrix are the published ones, so the line is E or U.
 -- Assumes nothing.
 use mathlib.Core.Path.{ap, ◌∙◌}
-use borrow.Author.Rules.{rules}
 use Rattle.field.specs.Mixing.{matrix}
 use Rattle.labyrinth.proofs.Agree.{published_matrix_agrees}
 use Rattle.labyrinth.proofs.Operations.{block_way}

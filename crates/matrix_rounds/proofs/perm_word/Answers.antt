@@ -1,9 +1,9 @@
 -- After b turns the word has the bytes below b, each from its place.
 -- Assumes nothing.
-use Rattle.std.proofs.Common.{◌≡◌, ℕ, ◌+◌, ◌-◌, ◌%◌, ◌<◌, ◌≤◌, get_or, take, sym, ap, ◌∙◌, mod-lt, arith, rules}
+use Rattle.std.proofs.Common.{◌≡◌, ℕ, ◌+◌, ◌-◌, ◌%◌, ◌<◌, take, sym, ap, ◌∙◌, mod-lt, arith}
 use Rattle.forms.specs.Words.{byte}
 use Rattle.forms.specs.Lists.{words_from}
-use Rattle.forms.proofs.Words.{byte_is_lt, Joined, joined_none, joined_more, joined_end}
+use Rattle.forms.proofs.Words.{byte_is_lt, joined_none, joined_more, joined_end}
 use Rattle.labyrinth.specs.Blocks.{plus, zip}
 use Rattle.labyrinth.proofs.Permutation.{get_or_P}
 use Rattle.labyrinth.proofs.Rounds.{summed}

@@ -1,13 +1,12 @@
 -- After j turns the first j words of both halves are the new ones.
 -- Assumes nothing.
-use Rattle.std.proofs.Common.{◌≡◌, ℕ, ◌-◌, ◌≤◌, take, refl, ap, ◌∙◌, le_of_eq, arith, take_all, rules}
+use Rattle.std.proofs.Common.{◌≡◌, ℕ, ◌-◌, refl, ap, ◌∙◌, le_of_eq, arith, take_all}
 use Rattle.forms.specs.Words.{each_byte}
-use Rattle.forms.specs.Lists.{words_from}
 use Rattle.field.specs.Substitution.{sub}
 use Rattle.field.specs.Mixing.{mix_by}
-use Rattle.labyrinth.specs.Blocks.{plus, zip}
+use Rattle.labyrinth.specs.Blocks.{plus}
 use Rattle.labyrinth.proofs.Blocks.{length_zip}
-use Rattle.labyrinth.proofs.Rounds.{Turned, turned_none, turned_more, turned_all}
+use Rattle.labyrinth.proofs.Rounds.{turned_none, turned_more, turned_all}
 use Rattle.matrix_rounds.proofs.round.Goals as goal
 
 pub loop-j-init : goal.loop-j-init

@@ -1,13 +1,9 @@
 -- At a place (i + 2) n of the schedule i iterations are done.
 -- Assumes nothing.
-use Rattle.std.proofs.Common.{◌≡◌, ◌+◌, ◌-◌, ◌*◌, ◌≤◌, length, sym, refl, ⊎_elim, arith, rules, eqb-true}
-use borrow.Author.Tests.{eqb-false}
-use Rattle.forms.specs.Words.{each_byte}
-use Rattle.field.specs.Substitution.{sub}
-use Rattle.field.specs.Mixing.{mix_by}
-use Rattle.labyrinth.specs.Working.{Size, both}
+use Rattle.std.proofs.Common.{◌≡◌, ◌+◌, ◌-◌, ◌≤◌, length, sym, refl, arith, rules}
+use Rattle.labyrinth.specs.Working.{Size}
 use Rattle.labyrinth.proofs.Sizes.{size_one, size_two, size_four}
-use Rattle.labyrinth.proofs.Rounds.{Ran, ran_none, ran_inside, ran_more, ran_all, ran_legal, when_illegal}
+use Rattle.labyrinth.proofs.Rounds.{ran_none, ran_inside, ran_more, ran_all, ran_legal, when_illegal}
 use Rattle.matrix_rounds.proofs.rounds.Goals as goal
 use Rattle.matrix_rounds.proofs.rounds.Goals.{then-n-eq1-via-then-n-eq1, then-n-eq1-via-else-n-eq1+then-n-eq2, then-n-eq1-via-else-n-eq1+else-n-eq2+then-n-eq4}
 use Rattle.matrix_rounds.proofs.rounds.Goals.{Joined-then-n-eq1}

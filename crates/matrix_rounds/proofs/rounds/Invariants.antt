@@ -1,13 +1,11 @@
 -- At a place (i + 2) n of the schedule i iterations are done.
 -- Assumes nothing.
-use Rattle.std.proofs.Common.{◌≡◌, ◌+◌, ◌-◌, ◌*◌, ◌≤◌, length, sym, refl, ⊎_elim, arith, rules, eqb-true}
-use borrow.Author.Tests.{eqb-false}
+use Rattle.std.proofs.Common.{◌-◌, ◌*◌}
 use Rattle.forms.specs.Words.{each_byte}
 use Rattle.field.specs.Substitution.{sub}
 use Rattle.field.specs.Mixing.{mix_by}
-use Rattle.labyrinth.specs.Working.{Size, both}
-use Rattle.labyrinth.proofs.Sizes.{size_one, size_two, size_four}
-use Rattle.labyrinth.proofs.Rounds.{Ran, ran_none, ran_inside, ran_more, ran_all, ran_legal, when_illegal}
+use Rattle.labyrinth.specs.Working.{both}
+use Rattle.labyrinth.proofs.Rounds.{Ran}
 use Rattle.matrix_rounds.proofs.rounds.Given as goal
 
 abbrev pub invariant-loop-at : goal.invariant-loop-at

@@ -1,15 +1,10 @@
 -- After j turns the word is the XOR over the bytes below j.
 -- Assumes nothing.
-use mathlib.Core.Path.{◌≡◌, refl, ap₂, ◌∙◌}
-use Prim.Native.Nat.{ℕ, ◌≤◌, ◌-◌, ◌*◌}
-use native.Mathlib.Omega.{arith}
+use mathlib.Core.Path.{◌≡◌}
+use Prim.Native.Nat.{◌≤◌, ◌-◌, ◌*◌}
 use lib.ListN.{get_or}
-use borrow.Author.Rules.{rules}
 use Rattle.forms.specs.Lists.{xor_sum}
 use Rattle.forms.specs.Words.{byte, rotl}
-use Rattle.forms.proofs.Sums.{xor_sum_next, xor_sum_end}
-use Rattle.forms.proofs.Words.{byte_is_lt}
-use Rattle.field.specs.Merged.{lookup}
 use Rattle.mixing.proofs.look_up.Given as goal
 
 abbrev pub invariant-loop-j : goal.invariant-loop-j

@@ -7,7 +7,6 @@ use Rattle.field.specs.Merged.{lookup}
 use Rattle.field.specs.Published.{table1, row}
 use Rattle.field.proofs.Substitution.{table1_undo}
 use Rattle.field.proofs.Merged.{lookup_merged}
-use borrow.Author.Rules.{rules}
 use Rattle.mixing.proofs.substitute_and_mix.Goals as goal
 
 pub returns : goal.returns

@@ -1,12 +1,11 @@
 -- After i turns the word has the bytes below i.
 -- Assumes nothing.
 use mathlib.Core.Path.{◌≡◌, ap, ◌∙◌}
-use Prim.Native.Nat.{ℕ, ◌≤◌, ◌-◌}
+use Prim.Native.Nat.{ℕ, ◌-◌}
 use native.Mathlib.Omega.{arith}
 use lib.ListN.{get_or}
-use borrow.Author.Rules.{rules}
-use Rattle.forms.specs.Words.{byte, each_byte}
-use Rattle.forms.proofs.Words.{byte_is_lt, Joined, joined_none, joined_more, joined_end}
+use Rattle.forms.specs.Words.{each_byte}
+use Rattle.forms.proofs.Words.{byte_is_lt, joined_none, joined_more, joined_end}
 use Rattle.field.specs.Substitution.{sub}
 use Rattle.mixing.proofs.substitute_bytes.Goals as goal
 

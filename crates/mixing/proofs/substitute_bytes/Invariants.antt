@@ -1,12 +1,8 @@
 -- After i turns the word has the bytes below i.
 -- Assumes nothing.
-use mathlib.Core.Path.{◌≡◌, ap, ◌∙◌}
-use Prim.Native.Nat.{ℕ, ◌≤◌, ◌-◌}
-use native.Mathlib.Omega.{arith}
-use lib.ListN.{get_or}
-use borrow.Author.Rules.{rules}
-use Rattle.forms.specs.Words.{byte, each_byte}
-use Rattle.forms.proofs.Words.{byte_is_lt, Joined, joined_none, joined_more, joined_end}
+use Prim.Native.Nat.{◌≤◌, ◌-◌}
+use Rattle.forms.specs.Words.{byte}
+use Rattle.forms.proofs.Words.{Joined}
 use Rattle.field.specs.Substitution.{sub}
 use Rattle.mixing.proofs.substitute_bytes.Given as goal
 

@@ -1,13 +1,10 @@
 -- The carry stands before byte i: the bytes before it still stand, those from it on are done.
 -- Assumes nothing.
-use mathlib.Core.Path.{◌≡◌, refl, sym, ap, ◌∙◌}
-use Prim.Native.Nat.{ℕ, ◌+◌, ◌-◌, ◌/◌, ◌%◌, ◌^◌, ◌≤◌, ◌<◌}
-use native.Mathlib.Omega.{arith}
-use lib.ListN.{length, get_or, take, set, length-set}
-use borrow.Author.Tests.{not-false, eqb-true}
-use borrow.Author.Rules.{rules}
+use mathlib.Core.Path.{◌≡◌}
+use Prim.Native.Nat.{◌+◌, ◌-◌, ◌^◌, ◌≤◌, ◌<◌}
+use lib.ListN.{length, take}
 use Rattle.forms.specs.Strings.{number, string}
-use Rattle.numbers.proofs.Adding.{added, added_first, added_next, before_next, added_none, scaled_all}
+use Rattle.numbers.proofs.Adding.{added}
 use Rattle.numbers.proofs.add_into.Given as goal
 
 abbrev pub invariant-loop-i : goal.invariant-loop-i

@@ -1,13 +1,13 @@
 -- The carry stands before byte i: the bytes before it still stand, those from it on are done.
 -- Assumes nothing.
 use mathlib.Core.Path.{◌≡◌, refl, sym, ap, ◌∙◌}
-use Prim.Native.Nat.{ℕ, ◌+◌, ◌-◌, ◌*◌, ◌/◌, ◌%◌, ◌^◌, ◌≤◌, ◌<◌}
+use Prim.Native.Nat.{ℕ, ◌+◌, ◌-◌, ◌*◌, ◌/◌, ◌%◌, ◌^◌, ◌<◌}
 use native.Mathlib.Nat.{add-zero}
 use native.Mathlib.Omega.{arith}
 use lib.ListN.{length, get_or, length-set}
 use borrow.Author.Rules.{rules}
 use Rattle.forms.specs.Strings.{number, string}
-use Rattle.numbers.proofs.Adding.{scaled, scaled_first, scaled_next, scaled_all}
+use Rattle.numbers.proofs.Adding.{scaled_first, scaled_next, scaled_all}
 use Rattle.numbers.proofs.double_into.Goals as goal
 use Rattle.numbers.proofs.double_into.Goals.{After-wide}
 

@@ -1,13 +1,10 @@
 -- The carry stands before byte i: the bytes before it still stand, those from it on are done.
 -- Assumes nothing.
-use mathlib.Core.Path.{◌≡◌, refl, sym, ap, ◌∙◌}
-use Prim.Native.Nat.{ℕ, ◌+◌, ◌-◌, ◌*◌, ◌/◌, ◌%◌, ◌^◌, ◌≤◌, ◌<◌}
-use native.Mathlib.Nat.{add-zero}
-use native.Mathlib.Omega.{arith}
-use lib.ListN.{length, get_or, length-set}
-use borrow.Author.Rules.{rules}
+use mathlib.Core.Path.{◌≡◌}
+use Prim.Native.Nat.{◌-◌, ◌*◌, ◌≤◌, ◌<◌}
+use lib.ListN.{length}
 use Rattle.forms.specs.Strings.{number, string}
-use Rattle.numbers.proofs.Adding.{scaled, scaled_first, scaled_next, scaled_all}
+use Rattle.numbers.proofs.Adding.{scaled}
 use Rattle.numbers.proofs.double_into.Given as goal
 
 abbrev pub invariant-loop-i : goal.invariant-loop-i

@@ -6,7 +6,6 @@ use Rattle.field.specs.Mixing.{mix}
 use Rattle.field.specs.Published.{row}
 use Rattle.rows.proofs.Rows.{published_word}
 use Rattle.operands.proofs.Operands.{word_mapped}
-use borrow.Author.Rules.{rules}
 use Rattle.operands.proofs.mix_bytes.Goals as goal
 
 pub returns : goal.returns

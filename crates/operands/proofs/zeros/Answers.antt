@@ -1,10 +1,8 @@
 -- Bytes 0 to i - 1 are zero, so those from i on decide.
 -- Assumes nothing.
-use mathlib.Core.Path.{◌≡◌, refl, sym, ◌∙◌}
-use Prim.Native.Nat.{◌-◌, ◌≤◌}
+use mathlib.Core.Path.{refl, sym, ◌∙◌}
+use Prim.Native.Nat.{◌-◌}
 use native.Mathlib.Omega.{arith}
-use lib.ListN.{length, drop}
-use Rattle.operands.specs.Operands.{zeros}
 use Rattle.operands.proofs.Operands.{zeros_next, zeros_not, zeros_past}
 use Rattle.operands.proofs.zeros.Goals as goal
 

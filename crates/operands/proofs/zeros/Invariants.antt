@@ -1,11 +1,9 @@
 -- Bytes 0 to i - 1 are zero, so those from i on decide.
 -- Assumes nothing.
-use mathlib.Core.Path.{◌≡◌, refl, sym, ◌∙◌}
+use mathlib.Core.Path.{◌≡◌}
 use Prim.Native.Nat.{◌-◌, ◌≤◌}
-use native.Mathlib.Omega.{arith}
 use lib.ListN.{length, drop}
 use Rattle.operands.specs.Operands.{zeros}
-use Rattle.operands.proofs.Operands.{zeros_next, zeros_not, zeros_past}
 use Rattle.operands.proofs.zeros.Given as goal
 
 abbrev pub invariant-loop-i : goal.invariant-loop-i

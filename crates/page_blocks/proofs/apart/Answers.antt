@@ -1,7 +1,6 @@
 -- Any other length, and whole commands.
 -- Assumes nothing.
 use mathlib.Core.Path.{refl}
-use borrow.Author.Rules.{rules}
 use borrow.Author.Tests.{eq-eqb, ne_eqb}
 use Rattle.page_blocks.proofs.apart.Goals as goal
 

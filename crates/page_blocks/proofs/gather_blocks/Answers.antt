@@ -1,14 +1,12 @@
 -- The blocks before `at` are there, and the commands left make the rest.
 -- Assumes nothing.
 use mathlib.Core.Path.{refl}
-use Prim.Native.Nat.{◌+◌, ◌-◌, ◌/◌, ◌≤◌, ◌<◌}
+use Prim.Native.Nat.{◌+◌, ◌-◌, ◌≤◌, ◌<◌}
 use native.Mathlib.Omega.{arith}
-use borrow.Author.Rules.{rules}
 use lib.ListN.{length, take, drop}
 use Rattle.forms.proofs.Parts.{part_length}
 use Rattle.strings.proofs.Laying.{copy_whole}
-use Rattle.pages.specs.Pages.{sealed_operands}
-use Rattle.page_blocks.proofs.Moves.{Gathering, gathering_first, gathering_room, gathering_next, gathering_last}
+use Rattle.page_blocks.proofs.Moves.{gathering_first, gathering_room, gathering_next, gathering_last}
 use Rattle.page_blocks.proofs.gather_blocks.Goals as goal
 use Rattle.page_blocks.proofs.gather_blocks.Goals.{In-loop-at}
 

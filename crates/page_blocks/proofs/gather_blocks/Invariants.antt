@@ -1,14 +1,9 @@
 -- The blocks before `at` are there, and the commands left make the rest.
 -- Assumes nothing.
-use mathlib.Core.Path.{refl}
-use Prim.Native.Nat.{◌+◌, ◌-◌, ◌/◌, ◌≤◌, ◌<◌}
-use native.Mathlib.Omega.{arith}
-use borrow.Author.Rules.{rules}
-use lib.ListN.{length, take, drop}
-use Rattle.forms.proofs.Parts.{part_length}
-use Rattle.strings.proofs.Laying.{copy_whole}
+use Prim.Native.Nat.{◌-◌, ◌/◌}
+use lib.ListN.{length}
 use Rattle.pages.specs.Pages.{sealed_operands}
-use Rattle.page_blocks.proofs.Moves.{Gathering, gathering_first, gathering_room, gathering_next, gathering_last}
+use Rattle.page_blocks.proofs.Moves.{Gathering}
 use Rattle.page_blocks.proofs.gather_blocks.Given as goal
 
 abbrev pub invariant-loop-at : goal.invariant-loop-at

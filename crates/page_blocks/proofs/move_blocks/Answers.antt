@@ -3,12 +3,10 @@
 use mathlib.Core.Path.{◌≡◌, refl, sym, ap, ◌∙◌}
 use Prim.Native.Nat.{◌+◌, ◌-◌, ◌≤◌, ◌<◌}
 use native.Mathlib.Omega.{arith}
-use borrow.Author.Rules.{rules}
 use lib.ListN.{length, take, drop}
 use Rattle.forms.proofs.Parts.{part_length}
 use Rattle.strings.proofs.Laying.{copy_whole}
-use Rattle.pages.specs.Pages.{sealed_commands}
-use Rattle.page_blocks.proofs.Moves.{Moving, moving_first, moving_room, moving_next, moving_last}
+use Rattle.page_blocks.proofs.Moves.{moving_first, moving_room, moving_next, moving_last}
 use Rattle.page_blocks.proofs.move_blocks.Goals as goal
 use Rattle.page_blocks.proofs.move_blocks.Goals.{After-block_command-c, In-loop-at}
 

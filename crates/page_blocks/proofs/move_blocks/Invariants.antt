@@ -1,14 +1,9 @@
 -- The commands before `at` are made, and the blocks left make the rest.
 -- Assumes nothing.
-use mathlib.Core.Path.{◌≡◌, refl, sym, ap, ◌∙◌}
-use Prim.Native.Nat.{◌+◌, ◌-◌, ◌≤◌, ◌<◌}
-use native.Mathlib.Omega.{arith}
-use borrow.Author.Rules.{rules}
-use lib.ListN.{length, take, drop}
-use Rattle.forms.proofs.Parts.{part_length}
-use Rattle.strings.proofs.Laying.{copy_whole}
+use Prim.Native.Nat.{◌-◌}
+use lib.ListN.{length, drop}
 use Rattle.pages.specs.Pages.{sealed_commands}
-use Rattle.page_blocks.proofs.Moves.{Moving, moving_first, moving_room, moving_next, moving_last}
+use Rattle.page_blocks.proofs.Moves.{Moving}
 use Rattle.page_blocks.proofs.move_blocks.Given as goal
 
 abbrev pub invariant-loop-at : goal.invariant-loop-at

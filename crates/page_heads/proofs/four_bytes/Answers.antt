@@ -4,7 +4,6 @@ use mathlib.Core.Path.{sym, ap}
 use mathlib.Core.List.{◌∷◌, []}
 use Prim.Native.Nat.{ℕ, ◌/◌, ◌%◌}
 use native.Mathlib.Nat.{div-one}
-use borrow.Author.Rules.{rules}
 use Rattle.forms.specs.Lists.{tabulate}
 use Rattle.forms.specs.Words.{byte}
 use Rattle.pages.specs.Pages.{four_bytes}

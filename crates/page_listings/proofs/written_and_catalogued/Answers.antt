@@ -1,7 +1,5 @@
 -- The writer's refusal, or the entry of what it wrote.
 -- Assumes nothing.
-use native.Mathlib.Omega.{arith}
-use borrow.Author.Rules.{rules}
 use mathlib.Core.Path.{◌∙◌}
 use Rattle.page_listings.proofs.Listings.{mid_holds, entry_refused, entry_written}
 use Rattle.page_listings.proofs.written_and_catalogued.Goals as goal

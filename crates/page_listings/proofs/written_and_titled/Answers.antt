@@ -1,7 +1,5 @@
 -- No, or what the comparison of the titles says.
 -- Assumes nothing.
-use native.Mathlib.Omega.{arith}
-use borrow.Author.Rules.{rules}
 use mathlib.Core.Path.{◌∙◌}
 use Rattle.page_listings.proofs.Listings.{mid_holds, title_refused, title_written}
 use Rattle.page_listings.proofs.written_and_titled.Goals as goal

@@ -2,7 +2,6 @@
 -- Assumes nothing.
 use mathlib.Core.Path.{sym}
 use lib.ListN.{get_or-eq_default}
-use borrow.Author.Rules.{rules}
 use Rattle.register_records.proofs.byte_in.Goals as goal
 
 pub returns-else-at-b : goal.returns-else-at-b

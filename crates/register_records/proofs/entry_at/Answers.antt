@@ -2,7 +2,6 @@
 -- Assumes nothing.
 use Rattle.register_layout.specs.Layout.{entry_in}
 use Rattle.register_layout.proofs.Entries.{same_entry}
-use borrow.Author.Rules.{rules}
 use Rattle.register_records.proofs.entry_at.Goals as goal
 
 pub returns : goal.returns

@@ -2,7 +2,6 @@
 -- Assumes nothing.
 use native.Mathlib.Omega.{arith}
 use Rattle.register_records.proofs.Parts.{other_length, full, put_behind_others}
-use borrow.Author.Rules.{rules}
 use Rattle.register_records.proofs.extend.Goals as goal
 
 pub returns-then-d-ne2824 : goal.returns-then-d-ne2824

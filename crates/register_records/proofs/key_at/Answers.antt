@@ -1,11 +1,10 @@
 -- The bytes below i have come in.
 -- Assumes nothing.
-use mathlib.Core.Path.{◌≡◌, refl}
-use Prim.Native.Nat.{◌≤◌, ◌+◌, ◌-◌}
+use mathlib.Core.Path.{refl}
+use Prim.Native.Nat.{◌-◌}
 use native.Mathlib.Omega.{arith}
-use lib.ListN.{length, get_or}
 use Rattle.forms.specs.Lists.{words_from}
-use Rattle.forms.proofs.Lists.{Replaced, replaced_none, replaced_more, replaced_all}
+use Rattle.forms.proofs.Lists.{replaced_none, replaced_more, replaced_all}
 use borrow.Author.Rules.{rules}
 use Rattle.register_records.proofs.key_at.Goals as goal
 

@@ -1,12 +1,9 @@
 -- The bytes below i have come in.
 -- Assumes nothing.
-use mathlib.Core.Path.{◌≡◌, refl}
+use mathlib.Core.Path.{◌≡◌}
 use Prim.Native.Nat.{◌≤◌, ◌+◌, ◌-◌}
-use native.Mathlib.Omega.{arith}
 use lib.ListN.{length, get_or}
-use Rattle.forms.specs.Lists.{words_from}
-use Rattle.forms.proofs.Lists.{Replaced, replaced_none, replaced_more, replaced_all}
-use borrow.Author.Rules.{rules}
+use Rattle.forms.proofs.Lists.{Replaced}
 use Rattle.register_records.proofs.key_at.Given as goal
 
 abbrev pub invariant-loop-i : goal.invariant-loop-i

@@ -1,7 +1,6 @@
 -- The numbers, and the key behind them.
 -- Assumes nothing.
 use Rattle.register_records.proofs.Parts.{entry_laid}
-use borrow.Author.Rules.{rules}
 use Rattle.register_records.proofs.lay.Goals as goal
 
 pub returns : goal.returns

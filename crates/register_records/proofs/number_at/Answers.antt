@@ -6,7 +6,6 @@ use native.Mathlib.Nat.{add-zero}
 use lib.ListN.{get_or}
 use Rattle.register_layout.specs.Layout.{two_byte_number}
 use Rattle.register_records.proofs.Parts.{join_two}
-use borrow.Author.Rules.{rules}
 use Rattle.register_records.proofs.number_at.Goals as goal
 
 pub returns : goal.returns

@@ -2,7 +2,6 @@
 -- Assumes nothing.
 use Rattle.forms.proofs.Whole.{not_written}
 use Rattle.register_records.proofs.Parts.{entry_written}
-use borrow.Author.Rules.{rules}
 use Rattle.register_records.proofs.put_entry.Goals as goal
 
 pub returns-then-d-ne44 : goal.returns-then-d-ne44

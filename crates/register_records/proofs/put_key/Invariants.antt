@@ -1,17 +1,10 @@
 -- The bytes below i stand there.
 -- Assumes nothing.
-use mathlib.Core.Path.{◌≡◌, refl, sym, ap, ◌∙◌}
-use mathlib.Core.List.{List}
-use Prim.Native.Nat.{ℕ, ◌≤◌, ◌+◌, ◌-◌}
-use native.Mathlib.Nat.{zero-add}
-use native.Mathlib.Omega.{arith}
-use lib.ListN.{length, get_or, set, length-set}
-use borrow.Kind.Array.{good_length, e_int}
-use mir.Syntax.{w8}
-use Rattle.forms.specs.Lists.{tabulate, words_from}
-use Rattle.forms.proofs.Buffers.{put, put_none, put_words}
-use Rattle.forms.proofs.Whole.{read_whole}
-use borrow.Author.Rules.{rules}
+use mathlib.Core.Path.{◌≡◌}
+use Prim.Native.Nat.{◌≤◌, ◌-◌}
+use lib.ListN.{length}
+use Rattle.forms.specs.Lists.{words_from}
+use Rattle.forms.proofs.Buffers.{put}
 use Rattle.register_records.proofs.put_key.Given as goal
 
 abbrev pub invariant-loop-i : goal.invariant-loop-i

@@ -3,7 +3,6 @@
 use native.Mathlib.Omega.{arith}
 use lib.ListN.{length-set}
 use Rattle.register_records.proofs.Parts.{put_two}
-use borrow.Author.Rules.{rules}
 use Rattle.register_records.proofs.put_number.Goals as goal
 
 pub bounds-d-at-2 : goal.bounds-d-at-2

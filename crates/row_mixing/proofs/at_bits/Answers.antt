@@ -1,11 +1,11 @@
 -- After t turns the word is the XOR over the bits below t.
 -- Assumes nothing.
 use mathlib.Core.Path.{◌≡◌, refl}
-use Prim.Native.Nat.{◌≤◌, ◌-◌, ◌*◌, ◌/◌, ◌%◌, ◌^◌}
+use Prim.Native.Nat.{◌-◌, ◌/◌, ◌^◌}
 use native.Mathlib.Omega.{arith}
 use mir.Syntax.{w64}
 use lib.ListN.{get_or}
-use borrow.Author.Rules.{rules, elem_Fits}
+use borrow.Author.Rules.{elem_Fits}
 use Rattle.forms.specs.Lists.{xor_sum}
 use Rattle.forms.proofs.Xor.{parity}
 use Rattle.forms.proofs.Sums.{xor_sum_next, xor_sum_end}

@@ -1,15 +1,9 @@
 -- After t turns the word is the XOR over the bits below t.
 -- Assumes nothing.
-use mathlib.Core.Path.{◌≡◌, refl}
+use mathlib.Core.Path.{◌≡◌}
 use Prim.Native.Nat.{◌≤◌, ◌-◌, ◌*◌, ◌/◌, ◌%◌, ◌^◌}
-use native.Mathlib.Omega.{arith}
-use mir.Syntax.{w64}
 use lib.ListN.{get_or}
-use borrow.Author.Rules.{rules, elem_Fits}
 use Rattle.forms.specs.Lists.{xor_sum}
-use Rattle.forms.proofs.Xor.{parity}
-use Rattle.forms.proofs.Sums.{xor_sum_next, xor_sum_end}
-use Rattle.field.proofs.Field.{digit_lt}
 use Rattle.row_mixing.proofs.at_bits.Given as goal
 
 abbrev pub invariant-loop-t : goal.invariant-loop-t

@@ -1,10 +1,9 @@
 -- After k turns the word is the XOR over the coefficients below k.
 -- Assumes nothing.
 use mathlib.Core.Path.{◌≡◌, refl, sym, ap₂, ◌∙◌}
-use Prim.Native.Nat.{◌≤◌, ◌-◌, ◌*◌}
+use Prim.Native.Nat.{◌-◌}
 use native.Mathlib.Omega.{arith}
 use lib.ListN.{get_or}
-use borrow.Author.Rules.{rules}
 use Rattle.forms.specs.Lists.{xor_sum}
 use Rattle.forms.specs.Words.{rotl}
 use Rattle.forms.proofs.Sums.{xor_sum_next, xor_sum_end}

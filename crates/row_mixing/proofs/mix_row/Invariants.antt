@@ -1,16 +1,11 @@
 -- After k turns the word is the XOR over the coefficients below k.
 -- Assumes nothing.
-use mathlib.Core.Path.{◌≡◌, refl, sym, ap₂, ◌∙◌}
+use mathlib.Core.Path.{◌≡◌}
 use Prim.Native.Nat.{◌≤◌, ◌-◌, ◌*◌}
-use native.Mathlib.Omega.{arith}
 use lib.ListN.{get_or}
-use borrow.Author.Rules.{rules}
 use Rattle.forms.specs.Lists.{xor_sum}
 use Rattle.forms.specs.Words.{rotl}
-use Rattle.forms.proofs.Sums.{xor_sum_next, xor_sum_end}
 use Rattle.field.specs.Mixing.{scale}
-use Rattle.field.proofs.Scale.{scale_powers}
-use Rattle.field.proofs.Mixing.{mix_coefficients}
 use Rattle.row_mixing.proofs.mix_row.Given as goal
 
 abbrev pub invariant-loop-k : goal.invariant-loop-k

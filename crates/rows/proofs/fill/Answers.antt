@@ -1,10 +1,9 @@
 -- After b turns the words below b are there.
 -- Assumes nothing.
-use mathlib.Core.Path.{◌≡◌, sym, ap, ◌∙◌}
-use Prim.Native.Nat.{ℕ, ◌≤◌, ◌<◌, ◌-◌}
+use mathlib.Core.Path.{sym, ap, ◌∙◌}
+use Prim.Native.Nat.{◌-◌}
 use native.Mathlib.Omega.{arith}
-use lib.ListN.{length, get_or, length-set}
-use borrow.Author.Rules.{rules}
+use lib.ListN.{length-set}
 use Rattle.forms.proofs.Lists.{get_or_filled, tabulated}
 use Rattle.field.specs.Substitution.{sub}
 use Rattle.field.specs.Mixing.{scale}

@@ -1,15 +1,10 @@
 -- After b turns the words below b are there.
 -- Assumes nothing.
-use mathlib.Core.Path.{◌≡◌, sym, ap, ◌∙◌}
+use mathlib.Core.Path.{◌≡◌}
 use Prim.Native.Nat.{ℕ, ◌≤◌, ◌<◌, ◌-◌}
-use native.Mathlib.Omega.{arith}
-use lib.ListN.{length, get_or, length-set}
-use borrow.Author.Rules.{rules}
-use Rattle.forms.proofs.Lists.{get_or_filled, tabulated}
+use lib.ListN.{length, get_or}
 use Rattle.field.specs.Substitution.{sub}
 use Rattle.field.specs.Mixing.{scale}
-use Rattle.field.specs.Merged.{entry, merged}
-use Rattle.field.proofs.Merged.{LCM_scale}
 use Rattle.rows.proofs.fill.Given as goal
 
 abbrev pub invariant-loop-b : goal.invariant-loop-b

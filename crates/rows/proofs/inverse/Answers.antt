@@ -3,7 +3,6 @@
 use mathlib.Core.Path.{◌≡◌, sym, ap, ap₂, ◌∙◌}
 use mathlib.Core.List.{List}
 use Prim.Native.Nat.{ℕ}
-use borrow.Author.Rules.{rules}
 use Rattle.forms.specs.Lists.{iterate}
 use Rattle.field.specs.Field.{power}
 use Rattle.field.specs.Mixing.{mix, row_sum, scale}

@@ -1,7 +1,6 @@
 -- The two checks in their order, or the table.
 -- Assumes nothing.
 use mathlib.Core.Path.{◌≡◌, refl, sym, ap, ◌∙◌}
-use borrow.Author.Rules.{rules}
 use Rattle.forms.proofs.Refusals.{refused_keeps}
 use Rattle.field.specs.Merged.{merged}
 use Rattle.rows.proofs.Rows.{row_iff, table_refused, table_five, table_iff}

@@ -2,7 +2,6 @@
 -- Assumes nothing.
 use mathlib.Core.Path.{sym, ap, ◌∙◌}
 use Prim.Native.Nat.{ℕ}
-use borrow.Author.Rules.{rules}
 use Rattle.rows.specs.Rows.{mixed}
 use Rattle.rows.proofs.Rows.{mixed_done, mixed_refused}
 use Rattle.rows.proofs.mix.Goals as goal

@@ -1,10 +1,7 @@
 -- After k turns the word is mixed k times.
 -- Assumes nothing.
-use mathlib.Core.Path.{◌≡◌, refl, sym, ap, ◌∙◌}
-use Prim.Native.Nat.{ℕ, ◌≤◌, ◌-◌}
-use native.Mathlib.Numerals.{add-one}
-use native.Mathlib.Omega.{arith}
-use borrow.Author.Rules.{rules}
+use mathlib.Core.Path.{◌≡◌}
+use Prim.Native.Nat.{◌≤◌, ◌-◌}
 use Rattle.forms.specs.Lists.{iterate}
 use Rattle.field.specs.Mixing.{mix}
 use Rattle.rows.proofs.power.Given as goal

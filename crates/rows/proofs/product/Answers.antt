@@ -5,7 +5,6 @@ use Rattle.field.specs.Mixing.{mix}
 use Rattle.buffers.specs.Words.{word_at}
 use Rattle.rows.specs.Inverse.{Row}
 use Rattle.rows.proofs.Ring.{bytes_of, given_row, loaded, product_word}
-use borrow.Author.Rules.{rules}
 use Rattle.rows.proofs.product.Goals as goal
 
 pub returns : goal.returns

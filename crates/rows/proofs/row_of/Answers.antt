@@ -1,6 +1,5 @@
 -- A word stored in a buffer of its own.
 -- Assumes nothing.
-use borrow.Author.Rules.{rules}
 use Rattle.forms.specs.Lists.{tabulate}
 use Rattle.buffers.specs.Words.{inside, with_word}
 use Rattle.rows.proofs.row_of.Goals as goal

@@ -1,7 +1,6 @@
 -- 13 exactly where the coefficients XOR to zero.
 -- Assumes nothing.
 use mathlib.Core.Path.{sym, ◌∙◌}
-use borrow.Author.Rules.{rules}
 use Rattle.rows.proofs.Rows.{row_zero, row_iff}
 use Rattle.rows.proofs.row_refusal.Goals as goal
 

@@ -1,13 +1,9 @@
 -- After i turns the sum is that of the coefficients below i.
 -- Assumes nothing.
-use mathlib.Core.Path.{◌≡◌, refl}
+use mathlib.Core.Path.{◌≡◌}
 use Prim.Native.Nat.{◌≤◌, ◌-◌}
-use native.Mathlib.Omega.{arith}
 use lib.ListN.{get_or}
-use borrow.Author.Rules.{rules}
 use Rattle.forms.specs.Lists.{xor_sum}
-use Rattle.forms.proofs.Sums.{xor_sum_next, xor_sum_end}
-use Rattle.field.specs.Mixing.{row_sum}
 use Rattle.rows.proofs.row_sum.Given as goal
 
 abbrev pub invariant-loop-i : goal.invariant-loop-i

@@ -1,9 +1,8 @@
 -- After j turns the words below j are laid.
 -- Assumes nothing.
 use mathlib.Core.Path.{◌≡◌, ap, ◌∙◌}
-use Prim.Native.Nat.{ℕ, ◌≤◌, ◌-◌}
+use Prim.Native.Nat.{ℕ, ◌-◌}
 use native.Mathlib.Omega.{arith}
-use borrow.Author.Rules.{rules}
 use Rattle.forms.specs.Lists.{tabulate, words_from}
 use Rattle.forms.proofs.Buffers.{put, put_none, put_words}
 use Rattle.schedule.proofs.lay.Goals as goal

@@ -1,11 +1,9 @@
 -- After j turns the words below j are laid.
 -- Assumes nothing.
-use mathlib.Core.Path.{◌≡◌, ap, ◌∙◌}
-use Prim.Native.Nat.{ℕ, ◌≤◌, ◌-◌}
-use native.Mathlib.Omega.{arith}
-use borrow.Author.Rules.{rules}
-use Rattle.forms.specs.Lists.{tabulate, words_from}
-use Rattle.forms.proofs.Buffers.{put, put_none, put_words}
+use mathlib.Core.Path.{◌≡◌}
+use Prim.Native.Nat.{◌≤◌, ◌-◌}
+use Rattle.forms.specs.Lists.{words_from}
+use Rattle.forms.proofs.Buffers.{put}
 use Rattle.schedule.proofs.lay.Given as goal
 
 abbrev pub invariant-loop-j : goal.invariant-loop-j

@@ -1,14 +1,11 @@
 -- After i turns the half-blocks below i are laid.
 -- Assumes nothing.
-use mathlib.Core.Path.{◌≡◌, refl, ◌∙◌}
+use mathlib.Core.Path.{refl, ◌∙◌}
 use Prim.Native.Nat.{◌≤◌, ◌<◌, ◌+◌, ◌-◌, ◌*◌}
 use native.Mathlib.Omega.{arith}
 use lib.ListN.{replicate}
-use borrow.Author.Rules.{rules}
-use Rattle.forms.specs.Lists.{tabulate}
-use Rattle.forms.proofs.Buffers.{put}
 use Rattle.labyrinth.specs.Keys.{order}
-use Rattle.labyrinth.proofs.Schedule.{within, laid_word, laid_first, laid_next, laid_length, laid_all, use_order_lt}
+use Rattle.labyrinth.proofs.Schedule.{within, laid_first, laid_next, laid_length, laid_all, use_order_lt}
 use Rattle.schedule.proofs.lay_all.Goals as goal
 use Rattle.schedule.proofs.lay_all.Goals.{After-subkey}
 

@@ -3,7 +3,6 @@
 use mathlib.Core.Path.{sym, ◌∙◌}
 use Rattle.labyrinth.proofs.Refusals.{legal_size_of}
 use Rattle.labyrinth.proofs.Schedule.{laid_none}
-use borrow.Author.Rules.{rules}
 use Rattle.schedule.proofs.schedule.Goals as goal
 
 pub lay_all-requires : goal.lay_all-requires

@@ -9,7 +9,6 @@ use lib.ListN.{get_or}
 use Rattle.labyrinth.specs.Keys.{order}
 use Rattle.labyrinth.specs.Working.{use_order}
 use Rattle.labyrinth.proofs.Schedule.{order_fore, order_back}
-use borrow.Author.Rules.{rules}
 use Rattle.schedule.proofs.subkey.Goals as goal
 
 pub returns-then-back : goal.returns-then-back

@@ -1,7 +1,6 @@
 -- The place is the byte itself.
 -- Assumes nothing.
 use mathlib.Core.Path.{refl}
-use borrow.Author.Rules.{rules}
 use Rattle.forms.specs.Words.{byte}
 use Rattle.spacing.proofs.place.Goals as goal
 

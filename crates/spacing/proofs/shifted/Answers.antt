@@ -4,7 +4,6 @@ use mathlib.Core.Path.{ap, ◌∙◌}
 use Prim.Native.Nat.{ℕ, ◌+◌, ◌-◌, ◌*◌}
 use native.Mathlib.Omega.{arith}
 use lib.ListN.{get_or}
-use borrow.Author.Rules.{rules}
 use Rattle.forms.specs.Words.{join}
 use Rattle.forms.proofs.Words.{byte_is_lt}
 use Rattle.buffers.proofs.Words.{word_at_lem}

@@ -1,11 +1,9 @@
 -- After i turns the first i bytes are there, among zeros; the first read tells that s holds bytes.
 -- Assumes nothing.
 use mathlib.Core.Path.{◌≡◌}
-use Prim.Native.Nat.{◌-◌, ◌≤◌, ◌<◌}
+use Prim.Native.Nat.{◌-◌}
 use native.Mathlib.Omega.{arith}
-use borrow.Author.Rules.{rules}
-use Rattle.forms.proofs.Bytes.{Bytes}
-use Rattle.spacing.proofs.Spacing.{Spacing, spacing_none, spacing_more, spacing_all}
+use Rattle.spacing.proofs.Spacing.{spacing_none, spacing_more, spacing_all}
 use Rattle.spacing.proofs.space.Goals as goal
 
 pub loop-i-init : goal.loop-i-init

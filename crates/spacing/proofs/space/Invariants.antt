@@ -1,11 +1,8 @@
 -- After i turns the first i bytes are there, among zeros; the first read tells that s holds bytes.
 -- Assumes nothing.
-use mathlib.Core.Path.{◌≡◌}
 use Prim.Native.Nat.{◌-◌, ◌≤◌, ◌<◌}
-use native.Mathlib.Omega.{arith}
-use borrow.Author.Rules.{rules}
 use Rattle.forms.proofs.Bytes.{Bytes}
-use Rattle.spacing.proofs.Spacing.{Spacing, spacing_none, spacing_more, spacing_all}
+use Rattle.spacing.proofs.Spacing.{Spacing}
 use Rattle.spacing.proofs.space.Given as goal
 
 abbrev pub invariant-loop-i : goal.invariant-loop-i

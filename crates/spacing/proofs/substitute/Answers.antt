@@ -4,7 +4,6 @@ use mathlib.Core.Path.{◌≡◌}
 use Prim.Native.Nat.{ℕ, ◌+◌, ◌-◌, ◌*◌}
 use lib.Bits.{bit_xor}
 use lib.ListN.{get_or}
-use borrow.Author.Rules.{rules}
 use Rattle.forms.specs.Lists.{xor_sum}
 use Rattle.forms.specs.Words.{byte, join}
 use Rattle.forms.proofs.Xor.{xors}

@@ -5,7 +5,6 @@ use mathlib.Core.List.{List, ◌++◌}
 use Prim.Native.Nat.{ℕ}
 use lib.ListN.{length, take, drop}
 use Rattle.store_records.proofs.Parts.{to_end, nothing_laid}
-use borrow.Author.Rules.{rules}
 use Rattle.store_records.proofs.lay.Goals as goal
 
 pub returns-then-at-b : goal.returns-then-at-b

@@ -5,7 +5,6 @@ use mathlib.Core.List.{List}
 use Prim.Native.Nat.{ℕ}
 use Rattle.sets.specs.declared.Set.{Set}
 use Rattle.records.specs.Records.{set_at}
-use borrow.Author.Rules.{rules}
 use Rattle.store_records.proofs.set_at.Goals as goal
 
 -- src/lib.rt:116:1

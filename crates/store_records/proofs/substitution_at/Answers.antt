@@ -2,7 +2,6 @@
 -- Assumes nothing.
 use mathlib.Core.Path.{◌∙◌}
 use Rattle.store_records.proofs.Parts.{from_zeros}
-use borrow.Author.Rules.{rules}
 use Rattle.store_records.proofs.substitution_at.Goals as goal
 
 -- src/lib.rt:98:1

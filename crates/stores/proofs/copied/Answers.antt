@@ -5,7 +5,6 @@ use mathlib.Core.List.{◌++◌, append-nil}
 use native.Mathlib.Omega.{arith}
 use lib.ListN.{length, replicate, drop_of_length-le}
 use lib.Seq.{take_all}
-use borrow.Author.Rules.{rules}
 use Rattle.stores.proofs.copied.Goals as goal
 
 pub returns : goal.returns

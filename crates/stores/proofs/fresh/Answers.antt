@@ -5,7 +5,6 @@ use mathlib.Core.List.{[], ◌∷◌}
 use Rattle.sets.specs.declared.Set.{Set}
 use Rattle.sets.specs.declared.Store.{Store}
 use Rattle.sets.specs.Sets.{fresh_store}
-use borrow.Author.Rules.{rules}
 use Rattle.stores.proofs.fresh.Goals as goal
 
 made : Set → Set → Store

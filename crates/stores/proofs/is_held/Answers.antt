@@ -1,7 +1,6 @@
 -- Set 0, then the two marks.
 -- Assumes nothing.
 use mathlib.Core.Path.{sym}
-use borrow.Author.Rules.{rules}
 use Rattle.sets.proofs.Sets.{held_zero, held_first, held_second}
 use Rattle.stores.proofs.is_held.Goals as goal
 

@@ -6,7 +6,6 @@ use lib.Dec.{eqb}
 use Rattle.sets.specs.declared.Set.{Set}
 use Rattle.sets.specs.Sets.{set_refusal, substitution_in, row_in}
 use Rattle.sets.proofs.Sets.{set_in_other, loaded_zero, loaded_out, loaded_in}
-use borrow.Author.Rules.{rules}
 use Rattle.stores.proofs.is_loaded.Goals as goal
 
 pub returns-then-i-eq0 : goal.returns-then-i-eq0

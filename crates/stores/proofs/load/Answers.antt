@@ -6,7 +6,6 @@ use Rattle.sets.specs.Sets.{in_store}
 use mathlib.Core.Bool.{true}
 use Rattle.field.proofs.Different.{different_split}
 use Rattle.sets.proofs.Sets.{set_fine, outside, inside, load_outside, load_refused, load_held, load_taken}
-use borrow.Author.Rules.{rules}
 use Rattle.stores.proofs.load.Goals as goal
 use Rattle.stores.proofs.load.Goals.{Else-i-gt3}
 

@@ -5,7 +5,6 @@ use mathlib.Core.List.{List}
 use Prim.Native.Nat.{ℕ}
 use Rattle.sets.specs.declared.Set.{Set}
 use Rattle.sets.specs.Sets.{published}
-use borrow.Author.Rules.{rules}
 use Rattle.stores.proofs.published.Goals as goal
 
 made : List ℕ → List ℕ → Set

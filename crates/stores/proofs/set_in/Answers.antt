@@ -2,7 +2,6 @@
 -- Assumes nothing.
 use mathlib.Core.Path.{sym, ◌∙◌}
 use Rattle.sets.proofs.Sets.{set_in_zero, set_in_other, set_in_outside}
-use borrow.Author.Rules.{rules}
 use Rattle.stores.proofs.set_in.Goals as goal
 
 pub returns-then-i-eq0 : goal.returns-then-i-eq0

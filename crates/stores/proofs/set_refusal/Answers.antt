@@ -1,10 +1,8 @@
 -- The two checks in their order.
 -- Assumes nothing.
 use mathlib.Core.Path.{sym, ◌∙◌}
-use borrow.Author.Tests.{not-true, not-false}
 use Rattle.rows.specs.Rows.{row_refusal}
 use Rattle.sets.specs.Sets.{set_refusal}
-use borrow.Author.Rules.{rules}
 use Rattle.stores.proofs.set_refusal.Goals as goal
 
 pub returns-then-not-is_different : goal.returns-then-not-is_different

@@ -4,10 +4,8 @@ use mathlib.Core.Path.{◌≡◌, refl, sym, ◌∙◌}
 use mathlib.Core.Bool.{Bool, true, false, ◌&&◌}
 use mathlib.Core.Logic.{inl}
 use native.Mathlib.Omega.{arith}
-use borrow.Author.Tests.{not-true, not-false}
 use Rattle.sets.specs.Sets.{in_store, loaded}
 use Rattle.sets.proofs.Sets.{outside, inside, loaded_lt, take_refused, take_taken}
-use borrow.Author.Rules.{rules}
 use Rattle.stores.proofs.take.Goals as goal
 
 neither : (a b : Bool) → b ≡ false → (a && b) ≡ false

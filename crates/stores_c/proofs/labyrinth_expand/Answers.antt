@@ -3,7 +3,6 @@
 use mathlib.Core.Bool.{not}
 use mathlib.Core.Path.{refl, ap, ◌∙◌}
 use lib.ListN.{length}
-use borrow.Author.Rules.{rules}
 use Rattle.labyrinth.specs.Refusals.{expand_refusal, under_length, expansion}
 use Rattle.labyrinth.specs.declared.Expanded.{Expanded}
 use Rattle.sets.specs.declared.Store.{Store}

@@ -2,7 +2,6 @@
 -- Assumes nothing.
 use mathlib.Core.Path.{refl, ap, ◌∙◌}
 use lib.ListN.{length}
-use borrow.Author.Rules.{rules}
 use Rattle.records.specs.Records.{store_bytes}
 use Rattle.forms.proofs.Whole.{as_written}
 use Rattle.records.proofs.Numbers.{store_refused, store_passed}

@@ -4,7 +4,6 @@ use mathlib.Core.Path.{◌≡◌, refl, ap₂, ◌∙◌}
 use mathlib.Core.List.{List}
 use Prim.Native.Nat.{ℕ}
 use lib.ListN.{length}
-use borrow.Author.Rules.{rules}
 use Rattle.sets.specs.declared.Store.{Store}
 use Rattle.sets.specs.Sets.{load}
 use Rattle.records.specs.Records.{store_in}

@@ -2,7 +2,6 @@
 -- Assumes nothing.
 use mathlib.Core.Path.{◌≡◌, refl, ap, ◌∙◌}
 use lib.ListN.{length}
-use borrow.Author.Rules.{rules}
 use Rattle.sets.specs.declared.Store.{Store}
 use Rattle.sets.specs.Sets.{take}
 use Rattle.records.specs.Records.{store_in}

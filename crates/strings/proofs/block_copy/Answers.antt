@@ -1,6 +1,5 @@
 -- The block is copied over zeros.
 -- Assumes nothing.
-use borrow.Author.Rules.{rules}
 use Rattle.strings.proofs.block_copy.Goals as goal
 
 pub returns : goal.returns

@@ -1,12 +1,10 @@
 -- What differed before `at` is gathered, and what is left decides the rest.
 -- Assumes nothing.
-use mathlib.Core.Path.{◌≡◌, refl, sym, ◌∙◌}
+use mathlib.Core.Path.{◌≡◌}
 use Prim.Native.Nat.{◌-◌, ◌≤◌}
-use native.Mathlib.Omega.{arith}
 use lib.ListN.{length}
-use borrow.Author.Rules.{rules}
 use Rattle.forms.specs.Strings.{same}
-use Rattle.strings.proofs.Comparing.{same_not, compared, compared_next, compared_all}
+use Rattle.strings.proofs.Comparing.{compared}
 use Rattle.strings.proofs.equal.Given as goal
 
 abbrev pub invariant-loop-at : goal.invariant-loop-at

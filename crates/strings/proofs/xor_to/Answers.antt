@@ -4,8 +4,7 @@ use mathlib.Core.Path.{◌≡◌, refl, sym, ap, ◌∙◌}
 use mathlib.Core.List.{List, ◌++◌}
 use Prim.Native.Nat.{ℕ, ◌-◌, ◌≤◌}
 use native.Mathlib.Omega.{arith}
-use lib.ListN.{length, take, drop, length-set}
-use borrow.Author.Rules.{rules}
+use lib.ListN.{take, drop, length-set}
 use Rattle.forms.specs.Strings.{xor_bytes}
 use Rattle.forms.proofs.Strings.{length_shorter, get_or_xor_bytes}
 use Rattle.strings.proofs.Laying.{lay_next, lay_all, lay_behind}

@@ -1,14 +1,10 @@
 -- The first i bytes are the XOR, and the others still stand.
 -- Assumes nothing.
-use mathlib.Core.Path.{◌≡◌, refl, sym, ap, ◌∙◌}
-use mathlib.Core.List.{List, ◌++◌}
-use Prim.Native.Nat.{ℕ, ◌-◌, ◌≤◌}
-use native.Mathlib.Omega.{arith}
-use lib.ListN.{length, take, drop, length-set}
-use borrow.Author.Rules.{rules}
+use mathlib.Core.Path.{◌≡◌}
+use mathlib.Core.List.{◌++◌}
+use Prim.Native.Nat.{◌-◌, ◌≤◌}
+use lib.ListN.{length, take, drop}
 use Rattle.forms.specs.Strings.{xor_bytes}
-use Rattle.forms.proofs.Strings.{length_shorter, get_or_xor_bytes}
-use Rattle.strings.proofs.Laying.{lay_next, lay_all, lay_behind}
 use Rattle.strings.proofs.xor_to.Given as goal
 
 abbrev pub invariant-loop-i : goal.invariant-loop-i

@@ -1,9 +1,8 @@
 -- The places are laid from the last to the first.
 -- Assumes nothing.
-use Prim.Native.Nat.{◌-◌, ◌≤◌}
+use Prim.Native.Nat.{◌-◌}
 use native.Mathlib.Omega.{arith}
-use Rattle.substitutions.proofs.Places.{Laid, entries, entries_length, entry_read, laid_none, laid_more, laid_all}
-use borrow.Author.Rules.{rules}
+use Rattle.substitutions.proofs.Places.{entries, entries_length, entry_read, laid_none, laid_more, laid_all}
 use Rattle.substitutions.proofs.inverse.Goals as goal
 
 pub loop-at-init : goal.loop-at-init

@@ -1,9 +1,7 @@
 -- The places are laid from the last to the first.
 -- Assumes nothing.
 use Prim.Native.Nat.{◌-◌, ◌≤◌}
-use native.Mathlib.Omega.{arith}
-use Rattle.substitutions.proofs.Places.{Laid, entries, entries_length, entry_read, laid_none, laid_more, laid_all}
-use borrow.Author.Rules.{rules}
+use Rattle.substitutions.proofs.Places.{Laid, entries}
 use Rattle.substitutions.proofs.inverse.Given as goal
 
 abbrev pub invariant-loop-at : goal.invariant-loop-at

@@ -1,6 +1,5 @@
 -- What is prepared gives E or U.
 -- Assumes nothing.
-use borrow.Author.Rules.{rules}
 use Rattle.labyrinth.proofs.Lent.{article_block_by_one}
 use Rattle.table_cipher.proofs.by_published.Goals as goal
 

@@ -2,12 +2,10 @@
 -- Assumes nothing.
 use mathlib.Core.Path.{◌≡◌, ap, ◌∙◌}
 use mathlib.Core.Bool.{Bool}
-use Prim.Native.Nat.{ℕ}
 use lib.ListN.{length}
-use borrow.Author.Rules.{rules}
 use Rattle.forms.proofs.Refusals.{refused_keeps}
 use Rattle.labyrinth.specs.Cipher.{Parts}
-use Rattle.labyrinth.specs.Refusals.{under_key, block_refusal}
+use Rattle.labyrinth.specs.Refusals.{under_key}
 use Rattle.labyrinth.specs.Working.{way}
 use Rattle.labyrinth.proofs.Refusals.{under_refused, block_one}
 use Rattle.sets.specs.Sets.{loaded}

@@ -1,6 +1,5 @@
 -- The eight tables are filled, since both lengths are right.
 -- Assumes nothing.
-use borrow.Author.Rules.{rules}
 use Rattle.eight_tables.proofs.Making.{eight_filled}
 use Rattle.table_cipher.proofs.eight_tables.Goals as goal
 

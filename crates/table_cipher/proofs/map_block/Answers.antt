@@ -1,8 +1,6 @@
 -- A refusal leaves the destination; else the three phases are the line.
 -- Assumes nothing.
 use mathlib.Core.Path.{refl, sym, ◌∙◌}
-use borrow.Author.Tests.{not-true, not-false}
-use borrow.Author.Rules.{rules}
 use Rattle.forms.proofs.Refusals.{refused_keeps}
 use Rattle.labyrinth.specs.Working.{table_parts}
 use Rattle.labyrinth.specs.Lent.{lent}

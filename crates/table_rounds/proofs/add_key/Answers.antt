@@ -1,8 +1,7 @@
 -- After j turns the first j words are the sums.
 -- Assumes nothing.
-use Rattle.std.proofs.Common.{◌≡◌, ◌+◌, ◌-◌, ◌≤◌, get_or, arith, rules}
-use Rattle.forms.proofs.Lists.{Replaced, replaced_none, replaced_more}
-use Rattle.labyrinth.specs.Blocks.{plus}
+use Rattle.std.proofs.Common.{◌≡◌, ◌-◌, arith}
+use Rattle.forms.proofs.Lists.{replaced_none, replaced_more}
 use Rattle.labyrinth.proofs.Rounds.{added}
 use Rattle.table_rounds.proofs.add_key.Goals as goal
 

@@ -1,9 +1,8 @@
 -- After j turns the first j words are the sums.
 -- Assumes nothing.
-use Rattle.std.proofs.Common.{◌≡◌, ◌+◌, ◌-◌, ◌≤◌, get_or, arith, rules}
-use Rattle.forms.proofs.Lists.{Replaced, replaced_none, replaced_more}
+use Rattle.std.proofs.Common.{◌+◌, ◌-◌, ◌≤◌, get_or}
+use Rattle.forms.proofs.Lists.{Replaced}
 use Rattle.labyrinth.specs.Blocks.{plus}
-use Rattle.labyrinth.proofs.Rounds.{added}
 use Rattle.table_rounds.proofs.add_key.Given as goal
 
 abbrev pub invariant-loop-j : goal.invariant-loop-j

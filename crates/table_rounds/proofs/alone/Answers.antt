@@ -1,6 +1,6 @@
 -- The four words are stored one by one.
 -- Assumes nothing.
-use Rattle.std.proofs.Common.{get_or, sym, refl, w64, rules}
+use Rattle.std.proofs.Common.{get_or, sym, refl, w64}
 use borrow.Kind.Array.{good_length, e_int}
 use Rattle.forms.specs.Lists.{tabulate}
 use Rattle.forms.proofs.Lists.{tabulated}

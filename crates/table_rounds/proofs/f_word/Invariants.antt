@@ -1,9 +1,8 @@
 -- After p turns of the outer loop and d of the inner one the two sums have the terms below p + d, and those four on.
 -- Assumes nothing.
-use Rattle.std.proofs.Common.{◌≡◌, ℕ, ◌+◌, ◌-◌, ◌%◌, ◌≤◌, sym, ap, add-zero, mod-lt, arith, rules}
-use native.Mathlib.Nat.{zero-mod}
-use Rattle.labyrinth.specs.Working.{share, lookup_in}
-use Rattle.labyrinth.proofs.Permutation.{Sums, sums_none, sums_more, sums_at, sums_all, multiple_more, multiple_end}
+use Rattle.std.proofs.Common.{◌≡◌, ◌+◌, ◌-◌, ◌%◌, ◌≤◌}
+use Rattle.labyrinth.specs.Working.{share}
+use Rattle.labyrinth.proofs.Permutation.{Sums}
 use Rattle.table_rounds.proofs.f_word.Given as goal
 
 abbrev pub invariant-loop-d : goal.invariant-loop-d

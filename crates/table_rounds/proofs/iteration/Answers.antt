@@ -1,6 +1,6 @@
 -- Each arm is one iteration at its size, under the key that stands in front of a schedule.
 -- Assumes nothing.
-use Rattle.std.proofs.Common.{sym, arith, rules}
+use Rattle.std.proofs.Common.{sym, arith}
 use Rattle.field.specs.Merged.{lookup}
 use Rattle.labyrinth.specs.Working.{lookup_in, share}
 use Rattle.labyrinth.proofs.Sizes.{size_one, size_two, size_four}

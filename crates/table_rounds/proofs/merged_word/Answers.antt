@@ -1,6 +1,6 @@
 -- Either form gives the byte's share.
 -- Assumes nothing.
-use Rattle.std.proofs.Common.{ap, ◌∙◌, arith, rules}
+use Rattle.std.proofs.Common.{ap, ◌∙◌, arith}
 use Rattle.forms.proofs.Words.{byte_is_lt}
 use Rattle.labyrinth.specs.Working.{table_words}
 use Rattle.labyrinth.proofs.Permutation.{share_eight, share_one}

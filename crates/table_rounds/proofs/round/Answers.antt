@@ -1,8 +1,7 @@
 -- After j turns the first j words of both halves are the new ones.
 -- Assumes nothing.
-use Rattle.std.proofs.Common.{◌≡◌, ◌-◌, ◌≤◌, refl, arith, rules}
-use Rattle.labyrinth.specs.Working.{lookup_in}
-use Rattle.labyrinth.proofs.Rounds.{Turned, turned_none, turned_more, turned_all}
+use Rattle.std.proofs.Common.{◌≡◌, ◌-◌, refl, arith}
+use Rattle.labyrinth.proofs.Rounds.{turned_none, turned_more, turned_all}
 use Rattle.table_rounds.proofs.round.Goals as goal
 
 pub loop-j-init : goal.loop-j-init

@@ -1,8 +1,8 @@
 -- After j turns the first j words of both halves are the new ones.
 -- Assumes nothing.
-use Rattle.std.proofs.Common.{◌≡◌, ◌-◌, ◌≤◌, refl, arith, rules}
+use Rattle.std.proofs.Common.{◌-◌, ◌≤◌}
 use Rattle.labyrinth.specs.Working.{lookup_in}
-use Rattle.labyrinth.proofs.Rounds.{Turned, turned_none, turned_more, turned_all}
+use Rattle.labyrinth.proofs.Rounds.{Turned}
 use Rattle.table_rounds.proofs.round.Given as goal
 
 abbrev pub invariant-loop-j : goal.invariant-loop-j

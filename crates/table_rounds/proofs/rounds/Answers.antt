@@ -1,6 +1,6 @@
 -- Each arm is the sixteen iterations at its size and form.
 -- Assumes nothing.
-use Rattle.std.proofs.Common.{true, false, arith, rules}
+use Rattle.std.proofs.Common.{true, false, arith}
 use Rattle.labyrinth.proofs.Sizes.{size_one, size_two, size_four}
 use Rattle.labyrinth.proofs.Rounds.{ran_lent, unlent_size, unlent_words}
 use Rattle.table_rounds.proofs.rounds.Goals as goal

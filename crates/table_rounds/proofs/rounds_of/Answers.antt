@@ -1,8 +1,7 @@
 -- At a place (i + 2) n of the schedule i iterations are done.
 -- Assumes nothing.
-use Rattle.std.proofs.Common.{◌-◌, ◌*◌, arith, rules}
-use Rattle.labyrinth.specs.Working.{both, lookup_in}
-use Rattle.labyrinth.proofs.Rounds.{Ran, ran_none, ran_inside, ran_more, ran_all}
+use Rattle.std.proofs.Common.{◌-◌, arith}
+use Rattle.labyrinth.proofs.Rounds.{ran_none, ran_inside, ran_more, ran_all}
 use Rattle.table_rounds.proofs.rounds_of.Goals as goal
 
 pub loop-at-init : goal.loop-at-init

@@ -1,8 +1,8 @@
 -- At a place (i + 2) n of the schedule i iterations are done.
 -- Assumes nothing.
-use Rattle.std.proofs.Common.{◌-◌, ◌*◌, arith, rules}
+use Rattle.std.proofs.Common.{◌-◌, ◌*◌}
 use Rattle.labyrinth.specs.Working.{both, lookup_in}
-use Rattle.labyrinth.proofs.Rounds.{Ran, ran_none, ran_inside, ran_more, ran_all}
+use Rattle.labyrinth.proofs.Rounds.{Ran}
 use Rattle.table_rounds.proofs.rounds_of.Given as goal
 
 abbrev pub invariant-loop-at : goal.invariant-loop-at

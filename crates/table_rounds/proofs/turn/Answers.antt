@@ -1,6 +1,6 @@
 -- The two shifts meet where the word comes round.
 -- Assumes nothing.
-use Rattle.std.proofs.Common.{◌*◌, arith, rules}
+use Rattle.std.proofs.Common.{◌*◌, arith}
 use Rattle.forms.proofs.Words.{rotl_code}
 use Rattle.table_rounds.proofs.turn.Goals as goal
 

@@ -5,7 +5,6 @@ use mathlib.Core.List.{List}
 use Prim.Native.Nat.{ℕ}
 use lib.ListN.{get_or}
 use Rattle.field.specs.Substitution.{sub}
-use borrow.Author.Rules.{rules}
 use Rattle.tables.proofs.substitute.Goals as goal
 
 pub returns : goal.returns

@@ -8,7 +8,6 @@ use lib.ListN.{get_or}
 use Rattle.field.specs.Substitution.{sub}
 use Rattle.field.specs.Published.{table1}
 use Rattle.field.proofs.Substitution.{sub_invert}
-use borrow.Author.Rules.{rules}
 use Rattle.tables.proofs.substitute_inverse.Goals as goal
 
 pub returns : goal.returns

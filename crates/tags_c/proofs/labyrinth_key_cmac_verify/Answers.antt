@@ -2,7 +2,6 @@
 -- Assumes nothing.
 use mathlib.Core.Bool.{not}
 use mathlib.Core.Path.{refl, ap, ◌∙◌}
-use borrow.Author.Rules.{rules}
 use Rattle.cmac.specs.declared.Verified.{Verified}
 use Rattle.cmac.proofs.Tags.{verification_number}
 use Rattle.one_shot.proofs.OneShot.{told_byte}

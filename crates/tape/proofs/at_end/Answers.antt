@@ -1,7 +1,6 @@
 -- The number alone, and the next state is the ended one.
 -- Assumes nothing.
 use mathlib.Core.Path.{sym, ap}
-use borrow.Author.Rules.{rules}
 use Rattle.tape_rules.specs.declared.Tape.{Tape}
 use Rattle.tape_rules.specs.Steps.{refuses}
 use Rattle.tape_rules.proofs.Cases.{gives}

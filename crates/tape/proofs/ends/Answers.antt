@@ -1,7 +1,6 @@
 -- The next state is the ended one.
 -- Assumes nothing.
 use mathlib.Core.Path.{ap}
-use borrow.Author.Rules.{rules}
 use Rattle.tape_rules.specs.declared.Tape.{Tape}
 use Rattle.tape.proofs.ends.Goals as goal
 

@@ -4,8 +4,6 @@ use mathlib.Core.Path.{sym, ap, ◌∙◌}
 use Prim.Native.Nat.{◌*◌, ◌≤◌}
 use native.Mathlib.Nat.{mul-le-mul}
 use native.Mathlib.Omega.{arith}
-use borrow.Author.Tests.{not-true, not-false}
-use borrow.Author.Rules.{rules}
 use Rattle.operands.specs.Operands.{zeros}
 use Rattle.tape_rules.proofs.Cases.{Key_taken, from_on, key_refused, key_passed, key_unused, key_good}
 use Rattle.tape.proofs.key_refusal.Goals as goal

@@ -6,7 +6,6 @@ use Prim.Native.Nat.{◌+◌, ◌-◌, ◌*◌}
 use native.Mathlib.Omega.{arith}
 use lib.ListN.{length, take, drop, length-append}
 use lib.Seq.{take_at, length-take-le}
-use borrow.Author.Rules.{rules}
 use Rattle.forms.proofs.Parts.{part_length}
 use Rattle.labyrinth.specs.Cipher.{article}
 use Rattle.labyrinth.specs.Working.{Size, way}

@@ -5,7 +5,6 @@ use mathlib.Core.Bool.{true}
 use Prim.Native.Nat.{◌*◌}
 use native.Mathlib.Omega.{arith}
 use borrow.Author.Tests.{not-true, not-false}
-use borrow.Author.Rules.{rules}
 use Rattle.labyrinth.specs.Refusals.{legal}
 use Rattle.labyrinth.specs.Working.{Size}
 use Rattle.labyrinth.proofs.Refusals.{legal_size_of}

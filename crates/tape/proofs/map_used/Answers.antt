@@ -2,7 +2,6 @@
 -- Assumes nothing.
 use mathlib.Core.Path.{sym, ap, ◌∙◌}
 use mathlib.Core.Bool.{Bool}
-use borrow.Author.Rules.{rules}
 use Rattle.forms.specs.Refusals.{outcome}
 use Rattle.labyrinth.specs.Cipher.{article}
 use Rattle.labyrinth.specs.Working.{way}

@@ -5,7 +5,6 @@ use mathlib.Core.List.{List}
 use Prim.Native.Nat.{ℕ}
 use native.Mathlib.Omega.{arith}
 use lib.ListN.{length, take, drop, replicate}
-use borrow.Author.Rules.{rules}
 use Rattle.forms.specs.Words.{words, bytes}
 use Rattle.forms.proofs.Parts.{part_length}
 use Rattle.strings.proofs.Laying.{laid_whole}

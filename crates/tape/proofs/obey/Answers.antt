@@ -1,7 +1,6 @@
 -- Each arm is one of the definition's commands.
 -- Assumes nothing.
 use mathlib.Core.Path.{refl, sym, ap, ◌∙◌}
-use borrow.Author.Rules.{rules}
 use lib.ListN.{get_or}
 use native.Mathlib.Omega.{arith}
 use Rattle.tape_rules.specs.declared.Tape.{Tape}

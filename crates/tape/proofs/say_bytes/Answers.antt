@@ -5,7 +5,6 @@ use mathlib.Core.List.{List, ◌∷◌}
 use Prim.Native.Nat.{ℕ, suc, ◌+◌, ◌-◌, ◌≤◌}
 use native.Mathlib.Omega.{arith}
 use lib.ListN.{length, take, drop, set, length-set}
-use borrow.Author.Rules.{rules}
 use Rattle.forms.specs.Lists.{over}
 use Rattle.forms.proofs.Parts.{part_kept, part_length}
 use Rattle.strings.proofs.Laying.{laid_whole}

@@ -1,7 +1,6 @@
 -- One byte at the front.
 -- Assumes nothing.
 use mathlib.Core.Path.{refl}
-use borrow.Author.Rules.{rules}
 use Rattle.tape_rules.proofs.Cases.{number_set}
 use Rattle.tape.proofs.say_number.Goals as goal
 

@@ -1,7 +1,6 @@
 -- Each way out is one of the definition's rules.
 -- Assumes nothing.
 use mathlib.Core.Path.{refl}
-use borrow.Author.Rules.{rules}
 use Rattle.tape_rules.proofs.Cases.{gives, step_room, step_ended, step_empty, step_command}
 use Rattle.tape.proofs.step.Goals as goal
 

@@ -3,7 +3,6 @@
 use mathlib.Core.Path.{refl, ap}
 use Prim.Native.Nat.{ℕ}
 use native.Mathlib.Omega.{arith}
-use borrow.Author.Rules.{rules}
 use Rattle.tape_rules.proofs.Cases.{number_set}
 use Rattle.tape_run.proofs.Runs.{gives, run_room, run_long, run_whole}
 use Rattle.tape_run.proofs.run.Goals as goal

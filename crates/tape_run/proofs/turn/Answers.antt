@@ -3,7 +3,6 @@
 use mathlib.Core.Path.{sym}
 use native.Mathlib.Omega.{arith}
 use lib.ListN.{length-take}
-use borrow.Author.Rules.{rules}
 use Rattle.tape_rules.specs.Steps.{step}
 use Rattle.tape_rules.proofs.Bounds.{one_if_top, step_bounded}
 use Rattle.tape_run.proofs.Turns.{Answered_in, answered_in, copied}

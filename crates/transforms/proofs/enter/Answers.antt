@@ -1,6 +1,6 @@
 -- Where the test fails, the halves are those of an empty block.
 -- Assumes nothing.
-use Rattle.std.proofs.Common.{length, ap, ◌∙◌, rules}
+use Rattle.std.proofs.Common.{length, ap, ◌∙◌}
 use Rattle.forms.proofs.Booleans.{when_chosen, when_spared}
 use Rattle.labyrinth.specs.Working.{fits, held, four_words}
 use Rattle.labyrinth.proofs.Ends.{fits_is}

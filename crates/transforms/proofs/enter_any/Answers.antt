@@ -1,6 +1,6 @@
 -- The three sizes: both halves come in, and IMix follows.
 -- Assumes nothing.
-use Rattle.std.proofs.Common.{arith, rules}
+use Rattle.std.proofs.Common.{arith}
 use Rattle.field.specs.Substitution.{sub}
 use Rattle.labyrinth.proofs.Ends.{entered, is_four}
 use Rattle.transforms.proofs.enter_any.Goals as goal

@@ -1,12 +1,12 @@
 -- After i turns the words below i of both halves are there.
 -- Assumes nothing.
-use Rattle.std.proofs.Common.{◌≡◌, ℕ, ◌+◌, ◌-◌, ◌%◌, ◌<◌, ◌≤◌, take, sym, refl, ap₂, mod-lt, arith, get_or-take, rules}
+use Rattle.std.proofs.Common.{◌≡◌, ℕ, ◌+◌, ◌-◌, ◌%◌, ◌<◌, take, sym, refl, ap₂, mod-lt, arith, get_or-take}
 use lib.Bits.{bit_xor}
 use Rattle.forms.specs.Lists.{tabulate}
 use Rattle.labyrinth.specs.Blocks.{Block}
 use Rattle.labyrinth.specs.Working.{four_words}
 use Rattle.labyrinth.proofs.FourWords.{four_more, four_end}
-use Rattle.labyrinth.proofs.Ends.{mixed_word, sigma_at, imixed}
+use Rattle.labyrinth.proofs.Ends.{sigma_at, imixed}
 use Rattle.transforms.proofs.imix.Goals as goal
 use Rattle.transforms.proofs.imix.Goals.{In-loop-i}
 

@@ -1,6 +1,6 @@
 -- After j turns the bytes of the words below j have gone out.
 -- Assumes nothing.
-use Rattle.std.proofs.Common.{◌≡◌, ℕ, ◌+◌, ◌-◌, ◌*◌, ◌<◌, ◌≤◌, length, get_or, refl, ap, ◌∙◌, mod-eq_of_lt, arith, rules}
+use Rattle.std.proofs.Common.{◌≡◌, ℕ, ◌+◌, ◌-◌, ◌*◌, ◌<◌, get_or, refl, ap, ◌∙◌, mod-eq_of_lt, arith}
 use Rattle.forms.specs.Lists.{tabulate}
 use Rattle.forms.specs.Words.{rotl, each_byte, bytes}
 use Rattle.forms.proofs.Buffers.{put, put_none, put_bytes}

@@ -1,13 +1,10 @@
 -- After j turns the bytes of the words below j have gone out.
 -- Assumes nothing.
-use Rattle.std.proofs.Common.{◌≡◌, ℕ, ◌+◌, ◌-◌, ◌*◌, ◌<◌, ◌≤◌, length, get_or, refl, ap, ◌∙◌, mod-eq_of_lt, arith, rules}
-use Rattle.forms.specs.Lists.{tabulate}
-use Rattle.forms.specs.Words.{rotl, each_byte, bytes}
-use Rattle.forms.proofs.Buffers.{put, put_none, put_bytes}
-use Rattle.buffers.proofs.Words.{with_word_lem}
+use Rattle.std.proofs.Common.{◌≡◌, ◌-◌, ◌*◌, ◌≤◌, length}
+use Rattle.forms.specs.Words.{bytes}
+use Rattle.forms.proofs.Buffers.{put}
 use Rattle.field.specs.Substitution.{sub}
-use Rattle.labyrinth.specs.Blocks.{minus}
-use Rattle.labyrinth.proofs.Ends.{out_half, get_or_out_half}
+use Rattle.labyrinth.proofs.Ends.{out_half}
 use Rattle.transforms.proofs.key_out.Given as goal
 
 abbrev pub invariant-loop-j : goal.invariant-loop-j

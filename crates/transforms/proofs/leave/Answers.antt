@@ -1,6 +1,6 @@
 -- Where the test fails, the buffer stays as it was.
 -- Assumes nothing.
-use Rattle.std.proofs.Common.{length, ◌∙◌, rules}
+use Rattle.std.proofs.Common.{length, ◌∙◌}
 use Rattle.forms.proofs.Booleans.{when_chosen, when_spared}
 use Rattle.labyrinth.specs.Working.{fits}
 use Rattle.labyrinth.proofs.Ends.{fits_is}

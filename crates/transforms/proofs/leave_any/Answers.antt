@@ -1,6 +1,6 @@
 -- The three sizes: IMix, and then both halves go out.
 -- Assumes nothing.
-use Rattle.std.proofs.Common.{◌*◌, ap, ◌∙◌, arith, rules}
+use Rattle.std.proofs.Common.{◌*◌, ap, ◌∙◌, arith}
 use Rattle.field.specs.Substitution.{sub}
 use Rattle.labyrinth.proofs.Ends.{left, is_four}
 use Rattle.transforms.proofs.leave_any.Goals as goal

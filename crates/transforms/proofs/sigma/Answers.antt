@@ -1,6 +1,6 @@
 -- After j turns the words below j are there; word 0 is rotated at the end.
 -- Assumes nothing.
-use Rattle.std.proofs.Common.{◌≡◌, ◌-◌, ◌≤◌, get_or, take, sym, refl, ap₂, arith, get_or-take, rules}
+use Rattle.std.proofs.Common.{◌≡◌, ◌-◌, take, sym, refl, ap₂, arith, get_or-take}
 use lib.Bits.{bit_xor}
 use Rattle.forms.specs.Lists.{tabulate}
 use Rattle.labyrinth.specs.Working.{four_words}

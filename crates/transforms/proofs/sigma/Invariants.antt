@@ -1,11 +1,9 @@
 -- After j turns the words below j are there; word 0 is rotated at the end.
 -- Assumes nothing.
-use Rattle.std.proofs.Common.{◌≡◌, ◌-◌, ◌≤◌, get_or, take, sym, refl, ap₂, arith, get_or-take, rules}
+use Rattle.std.proofs.Common.{◌≡◌, ◌-◌, ◌≤◌, get_or, take}
 use lib.Bits.{bit_xor}
 use Rattle.forms.specs.Lists.{tabulate}
 use Rattle.labyrinth.specs.Working.{four_words}
-use Rattle.labyrinth.proofs.FourWords.{four_more, four_end}
-use Rattle.labyrinth.proofs.Ends.{sigma_first}
 use Rattle.transforms.proofs.sigma.Given as goal
 
 abbrev pub invariant-loop-j : goal.invariant-loop-j

@@ -1,7 +1,6 @@
 -- The three phases, the halves exchanged between the second and the third.
 -- Assumes nothing.
 use Rattle.labyrinth.specs.Groups.{spaced_sub, lookup_four}
-use Rattle.std.proofs.Common.{rules}
 use Rattle.wide_blocks.proofs.Ends.{exchanged_two, phases}
 use Rattle.wide_blocks.proofs.block_2.Goals as goal
 

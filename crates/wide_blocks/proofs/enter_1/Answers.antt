@@ -2,7 +2,6 @@
 -- Assumes nothing.
 use Rattle.labyrinth.specs.Groups.{spaced_sub}
 use Rattle.labyrinth.proofs.Sizes.{size_one}
-use Rattle.std.proofs.Common.{rules}
 use Rattle.wide_blocks.proofs.Ends.{entered, ones}
 use Rattle.wide_blocks.proofs.enter_1.Goals as goal
 

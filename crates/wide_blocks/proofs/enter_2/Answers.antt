@@ -2,7 +2,6 @@
 -- Assumes nothing.
 use Rattle.labyrinth.specs.Groups.{spaced_sub}
 use Rattle.labyrinth.proofs.Sizes.{size_two}
-use Rattle.std.proofs.Common.{rules}
 use Rattle.wide_blocks.proofs.Ends.{entered, twos}
 use Rattle.wide_blocks.proofs.enter_2.Goals as goal
 

@@ -1,6 +1,5 @@
 -- Sigma is one word.
 -- Assumes nothing.
-use Rattle.std.proofs.Common.{rules}
 use Rattle.wide_blocks.proofs.Ends.{imix_one}
 use Rattle.wide_blocks.proofs.imix_1.Goals as goal
 

@@ -1,6 +1,5 @@
 -- The words of Sigma, each at the word behind it.
 -- Assumes nothing.
-use Rattle.std.proofs.Common.{rules}
 use Rattle.wide_blocks.proofs.Ends.{imix_two}
 use Rattle.wide_blocks.proofs.imix_2.Goals as goal
 

@@ -1,6 +1,6 @@
 -- The byte's share of the eight tables.
 -- Assumes nothing.
-use Rattle.std.proofs.Common.{refl, arith, rules}
+use Rattle.std.proofs.Common.{refl, arith}
 use Rattle.forms.proofs.Words.{byte_is_lt}
 use Rattle.labyrinth.proofs.Permutation.{share_eight}
 use Rattle.wide_blocks.proofs.part.Goals as goal

@@ -1,6 +1,5 @@
 -- One word by itself twice.
 -- Assumes nothing.
-use Rattle.std.proofs.Common.{rules}
 use Rattle.wide_blocks.proofs.Rounds.{round_one}
 use Rattle.wide_blocks.proofs.round_1.Goals as goal
 

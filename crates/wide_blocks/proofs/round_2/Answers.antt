@@ -1,6 +1,5 @@
 -- Two words, from either on.
 -- Assumes nothing.
-use Rattle.std.proofs.Common.{rules}
 use Rattle.wide_blocks.proofs.Rounds.{round_two}
 use Rattle.wide_blocks.proofs.round_2.Goals as goal
 

@@ -4,7 +4,7 @@ use Rattle.std.proofs.Common.{ℕ, ◌-◌, List, ap, ◌∙◌, arith, rules}
 use Rattle.labyrinth.specs.Cipher.{round}
 use Rattle.labyrinth.specs.Groups.{in_memory, lookup_four}
 use Rattle.labyrinth.proofs.Sizes.{size_one}
-use Rattle.wide_blocks.proofs.Rounds.{Ran, ran_none, ran_more, ran_all, key_alone}
+use Rattle.wide_blocks.proofs.Rounds.{ran_none, ran_more, ran_all, key_alone}
 use Rattle.wide_blocks.proofs.rounds_1.Goals as goal
 
 pub loop-at-init : goal.loop-at-init

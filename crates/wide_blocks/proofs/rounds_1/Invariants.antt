@@ -1,10 +1,8 @@
 -- At a place turns + 2 of the schedule so many iterations are done.
 -- Assumes nothing.
-use Rattle.std.proofs.Common.{ℕ, ◌-◌, List, ap, ◌∙◌, arith, rules}
-use Rattle.labyrinth.specs.Cipher.{round}
-use Rattle.labyrinth.specs.Groups.{in_memory, lookup_four}
-use Rattle.labyrinth.proofs.Sizes.{size_one}
-use Rattle.wide_blocks.proofs.Rounds.{Ran, ran_none, ran_more, ran_all, key_alone}
+use Rattle.std.proofs.Common.{◌-◌}
+use Rattle.labyrinth.specs.Groups.{lookup_four}
+use Rattle.wide_blocks.proofs.Rounds.{Ran}
 use Rattle.wide_blocks.proofs.rounds_1.Given as goal
 
 abbrev pub invariant-loop-at : goal.invariant-loop-at

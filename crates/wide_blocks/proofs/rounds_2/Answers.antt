@@ -1,9 +1,8 @@
 -- At a place 2 * (turns + 2) of the schedule so many iterations are done.
 -- Assumes nothing.
 use Rattle.std.proofs.Common.{◌-◌, arith, rules}
-use Rattle.labyrinth.specs.Groups.{lookup_four}
 use Rattle.labyrinth.proofs.Sizes.{size_two}
-use Rattle.wide_blocks.proofs.Rounds.{Ran, ran_none, ran_inside, ran_more, ran_all}
+use Rattle.wide_blocks.proofs.Rounds.{ran_none, ran_inside, ran_more, ran_all}
 use Rattle.wide_blocks.proofs.rounds_2.Goals as goal
 
 pub loop-at-init : goal.loop-at-init

@@ -1,6 +1,6 @@
 -- The sum that is rotated, and v with the other.
 -- Assumes nothing.
-use Rattle.std.proofs.Common.{◌≡◌, ℕ, ◌+◌, ◌%◌, true, [], ◌∷◌, get_or, rules}
+use Rattle.std.proofs.Common.{◌≡◌, ℕ, ◌+◌, ◌%◌, true, [], ◌∷◌, get_or}
 use lib.Bits.{bit_xor}
 use Rattle.forms.specs.Lists.{xor_sum}
 use Rattle.forms.specs.Words.{byte, rotl}

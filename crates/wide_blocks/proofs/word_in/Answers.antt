@@ -1,6 +1,6 @@
 -- Each step is what its callee gives.
 -- Assumes nothing.
-use Rattle.std.proofs.Common.{◌≡◌, ◌%◌, ap, ◌∙◌, ap₂, arith, rules}
+use Rattle.std.proofs.Common.{◌≡◌, ◌%◌, ap, ◌∙◌, ap₂, arith}
 use Rattle.forms.specs.Words.{rotl}
 use Rattle.labyrinth.specs.Groups.{spaced_sub}
 use Rattle.wide_blocks.proofs.word_in.Goals as goal

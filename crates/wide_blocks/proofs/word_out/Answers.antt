@@ -1,6 +1,6 @@
 -- Each step is what its callee gives.
 -- Assumes nothing.
-use Rattle.std.proofs.Common.{◌≡◌, ℕ, ◌%◌, ap, ◌∙◌, arith, rules}
+use Rattle.std.proofs.Common.{◌≡◌, ℕ, ◌%◌, ap, ◌∙◌, arith}
 use Rattle.forms.specs.Words.{rotl}
 use Rattle.labyrinth.specs.Blocks.{minus}
 use Rattle.labyrinth.specs.Groups.{spaced_sub}

@@ -2,7 +2,6 @@
 -- Assumes nothing.
 use native.Mathlib.Omega.{arith}
 use mathlib.Core.Path.{refl}
-use borrow.Author.Rules.{rules}
 use Rattle.forms.specs.Words.{byte}
 use Rattle.forms.proofs.Words.{byte_past}
 use Rattle.word_bytes.proofs.byte_at.Goals as goal

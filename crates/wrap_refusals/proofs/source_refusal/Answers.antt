@@ -2,8 +2,7 @@
 -- Assumes nothing.
 use mathlib.Core.Path.{◌≡◌, sym, ◌∙◌}
 use mathlib.Core.Bool.{true}
-use borrow.Author.Tests.{not-true, not-false, eq-eqb, ne_eqb}
-use borrow.Author.Rules.{rules}
+use borrow.Author.Tests.{eq-eqb, ne_eqb}
 use Rattle.labyrinth.specs.Refusals.{legal}
 use Rattle.wrap_refusals.proofs.source_refusal.Goals as goal
 use Rattle.wrap_refusals.proofs.source_refusal.Goals.{Else-not-is_legal}

@@ -1,7 +1,6 @@
 -- n and the source first, then the destination.
 -- Assumes nothing.
 use native.Mathlib.Omega.{arith}
-use borrow.Author.Rules.{rules}
 use Rattle.modes.specs.Refusals.{Sized, unwrap_refusal}
 use Rattle.modes.proofs.Refusals.{keys_refused, keys_sized, keys_other, keys_fit}
 use Rattle.wrap_refusals.proofs.unwrap_refusal.Goals as goal

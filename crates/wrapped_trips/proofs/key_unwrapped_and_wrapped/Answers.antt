@@ -5,7 +5,6 @@ use mathlib.Core.List.{List}
 use Prim.Native.Nat.{ℕ}
 use native.Mathlib.Omega.{arith}
 use lib.ListN.{length}
-use borrow.Author.Rules.{rules}
 use Rattle.forms.specs.Refusals.{outcome}
 use Rattle.forms.proofs.Bytes.{Bytes}
 use Rattle.forms.proofs.Twice.{Both, stopped, went_on, comes_back}

@@ -6,7 +6,6 @@ use mathlib.Core.List.{List}
 use Prim.Native.Nat.{ℕ}
 use native.Mathlib.Omega.{arith}
 use lib.ListN.{length}
-use borrow.Author.Rules.{rules}
 use Rattle.forms.specs.Refusals.{outcome, first_of}
 use Rattle.forms.proofs.Bytes.{Bytes, Small}
 use Rattle.forms.proofs.Twice.{Both, stopped, went_on, comes_back, first_cong}

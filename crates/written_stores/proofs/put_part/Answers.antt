@@ -1,7 +1,6 @@
 -- The string is copied to the front of what is left from the place on.
 -- Assumes nothing.
 use Rattle.written_stores.proofs.Parts.{put_there}
-use borrow.Author.Rules.{rules}
 use Rattle.written_stores.proofs.put_part.Goals as goal
 
 pub returns : goal.returns

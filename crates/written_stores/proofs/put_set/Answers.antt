@@ -6,7 +6,6 @@ use lib.ListN.{length, length-append}
 use borrow.Kind.Array.{good_length, e_int}
 use mir.Syntax.{w8}
 use Rattle.written_stores.proofs.Parts.{put_both}
-use borrow.Author.Rules.{rules}
 use Rattle.written_stores.proofs.put_set.Goals as goal
 use Rattle.written_stores.proofs.put_set.Goals.{Start}
 

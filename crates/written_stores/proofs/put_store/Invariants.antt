@@ -1,14 +1,9 @@
 -- After i turns the sets below i stand there; then what is taken.
 -- Assumes nothing.
-use mathlib.Core.Path.{◌≡◌, refl, ◌∙◌}
+use mathlib.Core.Path.{◌≡◌}
 use Prim.Native.Nat.{◌≤◌, ◌-◌}
-use native.Mathlib.Omega.{arith}
 use lib.ListN.{length}
-use borrow.Author.Rules.{rules}
-use Rattle.buffers.proofs.Words.{with_word_lem}
-use Rattle.records.specs.Records.{set_bytes}
-use Rattle.forms.proofs.Whole.{not_written}
-use Rattle.written_stores.proofs.Parts.{Filled, filled_none, filled_more, filled_store}
+use Rattle.written_stores.proofs.Parts.{Filled}
 use Rattle.written_stores.proofs.put_store.Given as goal
 
 abbrev pub invariant-loop-i : goal.invariant-loop-i

@@ -1,8 +1,6 @@
 -- The checks in their order.
 -- Assumes nothing.
 use mathlib.Core.Path.{sym, ◌∙◌}
-use borrow.Author.Tests.{not-true, not-false}
-use borrow.Author.Rules.{rules}
 use Rattle.modes.specs.Refusals.{cmac_refusal}
 use Rattle.modes.proofs.Refusals.{cmac_iff, cmac_large, cmac_short, cmac_long}
 use Rattle.run_refusals.proofs.cmac.cmac_refusal.Goals as goal

@@ -1,0 +1,38 @@
+-- The lengths of the records refused, or what the writer answers.
+-- Assumes nothing.
+use mathlib.Core.Path.{ap}
+use mathlib.Core.Bool.{not}
+use mathlib.Core.List.{List}
+use Prim.Native.Nat.{ℕ}
+use lib.ListN.{length}
+use Rattle.labyrinth.specs.declared.WorkingKey.{WorkingKey}
+use Rattle.sets.specs.declared.Store.{Store}
+use Rattle.keyed_pages.specs.Keyed.{written}
+use Rattle.keyed_pages.specs.Refusals.{write_refusal}
+use Rattle.pages_c.proofs.LentPages.{sealing_refused, tagging_refused, lent_done}
+use Rattle.pages_c.proofs.labyrinth_page_write.Goals as goal
+use Rattle.pages_c.proofs.labyrinth_page_write.Goals.{Start}
+
+-- the writer's number and record, by the store and the keys
+abbrev number : Start → Store → WorkingKey → WorkingKey → ℕ
+number s = let a = s.args in λ st k t. write_refusal st k t (length a.title.now) (length a.start.now) (length a.body.now) (length a.dst.now)
+
+abbrev result : Start → Store → WorkingKey → WorkingKey → List ℕ
+result s = let a = s.args in λ st k t. written st k t a.number a.day a.title.now a.start.now a.body.now
+
+pub returns-then-not-fit : goal.returns-then-not-fit
+returns-then-not-fit c =
+    let a = c.args in
+    let both = sealing_refused a.store.now a.sealing.now a.tagging.now (number (goal.at.returns-then-not-fit c).Start) (result (goal.at.returns-then-not-fit c).Start) a.dst.now c.fit.ensures (ap not c.if-not-fit.true) in record { number = both.0; page = both.1 }
+
+pub returns-then-not-fit-2 : goal.returns-then-not-fit-2
+returns-then-not-fit-2 c =
+    let a = c.args in
+    let both = tagging_refused a.store.now a.sealing.now a.tagging.now (number (goal.at.returns-then-not-fit-2 c).Start) (result (goal.at.returns-then-not-fit-2 c).Start) a.dst.now c.fit.ensures (ap not c.if-not-fit.false)
+    c.fit-2.ensures (ap not c.if-not-fit-2.true) in record { number = both.0; page = both.1 }
+
+pub returns : goal.returns
+returns c =
+    let a = c.args in
+    let both = lent_done a.store.now a.sealing.now a.tagging.now (number (goal.at.returns c).Start) (result (goal.at.returns c).Start) a.dst.now c.fit.ensures (ap not c.if-not-fit.false)
+    c.fit-2.ensures (ap not c.if-not-fit-2.false) c.store_of-s.ensures c.key_of-k.ensures c.key_of-t.ensures (c.write.ensures.number, c.write.ensures.page) in record { number = both.0; page = both.1 }
