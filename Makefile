@@ -11,14 +11,14 @@
 COMPILE = gcc -std=c99 -Wall -Wextra -Wpedantic -I target/dist
 
 run:
-	rt check tape_program judge_row
+	mkdir -p target
 	tools/write_tape tools/example.txt >target/example.tape
-	target/bin/tape_program <target/example.tape >target/example.answers
+	cd crates/tape_program && rt run <../../target/example.tape >../../target/example.answers
 	@echo "the $$(wc -c <target/example.answers) bytes of the answers:"
 	@od -A n -v -t x1 target/example.answers
 	tools/show_tape target/example.tape target/example.answers
-	@echo "target/bin/judge_row judges rows, sixteen hexadecimal digits each, on its standard input; the published one:"
-	echo 01 01 03 0F 0A 1F 0F 0C | target/bin/judge_row
+	@echo "crates/judge_row/out/judge_row judges rows, sixteen hexadecimal digits each, on its standard input; the published one:"
+	cd crates/judge_row && echo 01 01 03 0F 0A 1F 0F 0C | rt run
 	$(MAKE) -s lib
 	@echo "examples/record.c writes a page record, lists it without a key and opens it; then it alters one byte, which opening is to refuse with 20:"
 	$(COMPILE) examples/record.c target/dist/liblabyrinth.a -o target/record
@@ -29,10 +29,9 @@ test:
 
 LIBRARY = labyrinth_c rows_c stores_c blocks_c runs_c tags_c wraps_c pages_c registers_c
 lib:
-	rt check $(LIBRARY)
 	tools/archives $(LIBRARY)
 	mkdir -p target/dist
-	{ echo create target/dist/liblabyrinth.a; printf 'addlib target/staticlib/lib%s.a\n' $(LIBRARY); echo save; echo end; } | ar -M
+	{ echo create target/dist/liblabyrinth.a; printf 'addlib %s\n' $(foreach name,$(LIBRARY),crates/$(name)/out/lib$(name).a); echo save; echo end; } | ar -M
 	cp include/labyrinth.h target/dist/labyrinth.h
 
 example: lib
@@ -49,10 +48,10 @@ compare: lib
 	tests/compare_c.py $${ARCHIVIST:+--archivist "$$ARCHIVIST"} $${SEED:+--seed "$$SEED"}
 
 bench: lib
-	rt staticlib bench_blocks
+	tools/archives bench_blocks
 	with=; if printf '#include <openssl/evp.h>\nint main(void) { return EVP_aria_128_ctr() == 0; }\n' | gcc -x c -o target/has_openssl - -lcrypto 2>/dev/null; \
 	then with='-DOPENSSL -lcrypto'; fi; \
-	gcc -std=c11 -O3 -Wall -Wextra -o target/bench bench/bench.c bench/labyrinth.c bench/others.c target/staticlib/libbench_blocks.a target/dist/liblabyrinth.a $$with
+	gcc -std=c11 -O3 -Wall -Wextra -o target/bench bench/bench.c bench/labyrinth.c bench/others.c crates/bench_blocks/out/libbench_blocks.a target/dist/liblabyrinth.a $$with
 	target/bench
 
 wrong:

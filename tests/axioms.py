@@ -1,23 +1,68 @@
 #!/usr/bin/env python3
-"""Prints the count of assumptions of every crate after rt ci; a library may have none."""
+"""Prints of every crate what it assumes; a library may assume nothing. Only functions of an extern "C" block can be assumed. A verdict has foreign= where the
+crate has such a block, which rt ci refuses; and that of a program or a static library has axioms=, how many it reaches in any crate, those of std
+too. So no crate has such a block, no verdict says foreign=, and that of a static library no axioms=. A crate whose files an earlier run of
+rt ci on this machine proved has no verdict in the log, but a line that says so; those of the library for C have one in the log of make lib.
+
+    tests/axioms.py LOG..    what rt ci and make lib printed
+"""
+import glob
 import os
 import re
 import sys
 
-bad = 0
-for line in open("crates.txt"):
-    name = line.split("#")[0].split(":")[0].strip()
-    if not name:
-        continue
-    verdicts = re.findall(r"^logic=proved .*$", open(f"target/log/{name}.out").read(), flags=re.M)
-    if len(verdicts) != 1 or "trusted" in re.sub(r"(logic|libraries)-built=trusted", "", verdicts[0]):
-        print(f"axioms: {name}: no verdict of its own: {verdicts}")
-        bad += 1
-        continue
-    found = re.search(r"\baxioms=(\d+)", verdicts[0])
-    count = int(found.group(1)) if found else 0
-    library = os.path.exists(f"crates/{name}/src/lib.rt")
-    print(f"axioms: {name}: {count}")
-    if library and (count or "foreign=" in verdicts[0]):
-        bad += 1
-sys.exit(1 if bad else 0)
+# words of a verdict of rt ci's that say what was not checked again, the logic and the libraries below, which were checked by themselves; and of make lib's, which
+# begins with what earlier checks of the crate kept, as rt ci never does
+TRUSTED = {"logic-built", "libraries-built", "statements"}
+LATER = {*TRUSTED, "incremental"}
+BESIDE = ("bench_blocks",)  # a static library that is not of the library for C
+
+
+def read(path):
+    with open(path, encoding="utf-8", errors="replace") as file:
+        return file.read()
+
+
+def crates():
+    """The names in crates.txt, and whether each is a static library."""
+    with open("crates.txt") as file:
+        heads = [line.split("#")[0].partition(":")[0].split() for line in file]
+    return {head[0]: "staticlib" in head for head in heads if head}
+
+
+def verdicts(log):
+    """Of each crate the verdicts below its line, as words with what they are; of its tests none."""
+    found = {}
+    for name, text in re.findall(r"^== (\w+)\n(.*?)(?=^== |\Z)", log, re.M | re.S):
+        lines = re.findall(r"^logic=proved (.*)$", text, re.M)
+        found.setdefault(name, []).extend(dict(word.partition("=")[::2] for word in line.split()) for line in lines)
+    return found
+
+
+def main(names):
+    logs = [read(name) for name in names]
+    kept = {name for log in logs for name in re.findall(r"^rt: (\w+) is kept: an earlier run", log, re.M)}
+    said, bad = [verdicts(log) for log in logs], 0
+    for name, static in crates().items():
+        own = [(at, verdict) for at, found in enumerate(said) for verdict in found.get(name, [])]
+        trusted = {word for at, verdict in own for word, what in verdict.items() if what == "trusted" and word not in (TRUSTED, LATER)[at > 0]}
+        foreign = any(re.search(r'\bextern\s+"C"\s*\{', read(path)) for path in glob.glob(f"crates/{name}/src/**/*.rt", recursive=True))
+        assumed = max((int(verdict.get("axioms", 0)) for _, verdict in own), default=None)
+        if not own and (name not in kept or static and name not in BESIDE):
+            wrong = "no verdict of its own"
+        elif trusted:
+            wrong = f"it trusts {' '.join(sorted(trusted))}"
+        elif foreign or any("foreign" in verdict for _, verdict in own):
+            wrong = 'it has functions of an extern "C" block'
+        else:
+            wrong = f"a static library that assumes {assumed}" if static and assumed else ""
+        library = os.path.exists(f"crates/{name}/src/lib.rt")
+        count = assumed if assumed is not None and (static or not library) else "0" if library and not static else "proved by an earlier run"
+        print(f"axioms: {name}: {'FAILED: ' + wrong if wrong else count}")
+        bad += bool(wrong)
+    sys.exit(1 if bad or not crates() else 0)
+
+
+if len(sys.argv) < 2:
+    sys.exit(__doc__)
+main(sys.argv[1:])

@@ -13,7 +13,7 @@ wrong() { echo "compare: $*"; status=1; }
 mkdir "$work/expected" && tests/expected.py --all "$work/expected" || exit 1
 while read -r name place cases kind; do
     files=$work/expected/$name.$place
-    "target/bin/$name" <"$files.stdin" >"$work/printed" || wrong "$name, $kind: it did not run"
+    "crates/$name/out/$name" <"$files.stdin" >"$work/printed" || wrong "$name, $kind: it did not run"
     cmp "$files.stdout" "$work/printed" || wrong "$name, $kind: it prints something else than the archivists' program says"
     [ "$(wc -l <"$work/printed")" -eq "$cases" ] || wrong "$name, $kind: not $cases lines"
     # an altered vector fails: the last digit of the last line, and a bit of the last case
@@ -21,7 +21,7 @@ while read -r name place cases kind; do
         "$files.stdout" >"$work/altered"
     [ "$(wc -l <"$work/altered")" -eq "$cases" ] || wrong "$name, $kind: the altered copy has another length"
     ! cmp -s "$work/altered" "$work/printed" || wrong "$name, $kind: an altered digit passed"
-    "target/bin/$name" <"$files.altered" >"$work/printed" 2>/dev/null || wrong "$name, $kind: it did not run on the altered case"
+    "crates/$name/out/$name" <"$files.altered" >"$work/printed" 2>/dev/null || wrong "$name, $kind: it did not run on the altered case"
     ! cmp -s "$files.stdout" "$work/printed" || wrong "$name, $kind: an altered case passed"
     echo "compare: $name, $kind: $cases cases"
     programs[$name]=1

@@ -1,7 +1,7 @@
 #!/usr/bin/env python3
 """Holds the documents to the tree:
 
-    - every path in backquotes in README.md and docs/*.md is there (in target/, where things are made, nothing is looked for);
+    - every path in backquotes in README.md and docs/*.md is there (in target/ and crates/*/out/, where things are made, nothing is looked for);
     - every name in backquotes in docs/READING.md and docs/CONTRACTS.md is defined in the tree; of an expression every name is in its code;
     - every definition of crates/*/specs that the contract of a public function of a library names, and every one that these are made of,
       stands in backquotes in docs/READING.md, as Module.name where two modules have one of that name; and every statement of the promise;
@@ -17,7 +17,7 @@ import os
 import re
 import sys
 
-WORD = r"[^\W\d][\w⁻¹₀′·-]*[\w⁻¹₀′]|[^\W\d]"
+WORD = r"[^\W\d][\w⁻¹₀'-]*[\w⁻¹₀']|[^\W\d]"
 PATH = r"(?:\w[\w.*+-]*/)+[\w.*-]*|\w[\w.-]*\.(?:md|py|sh|txt|antt|rt|rs|h|c|json|toml)"
 DEFINED = {".antt": rf"^ *(?:(?:unfoldable|abbrev|pub|record|data) )*({WORD})(?= :| \([^()]* : )", ".rt": r"(?:\b(?:fn|struct|const) |^ +pub )(\w+)"}
 
@@ -26,6 +26,11 @@ def read(path):
     """A file; of code what is no comment."""
     text = open(path, encoding="utf-8").read()
     return re.sub(r"(^|\s)(?:--|//).*", r"\1", text) if path.endswith((".antt", ".rt")) else text
+
+
+def made(path):
+    """Whether a path is where things are made."""
+    return re.match(r"target/|crates/\w+/out/", path)
 
 
 def spans(path):
@@ -38,9 +43,9 @@ def spans(path):
 def imported(text):
     """Of each name from a module of specs what it is: (crate, module, name); of a module under another name, that with a dot, (crate, module)."""
     found = {}
-    for crate, module, listed, alias in re.findall(r"use Rattle·(\w+)(?:·specs)?\.specs\.(\w+)(?:\.\{(.*?)\}| as ([\w-]+))", text):
+    for crate, module, listed, alias in re.findall(r"use Rattle\.(\w+)\.specs\.(\w+)(?:\.\{([^}]*)\}| as (\w+))", text):
         found[alias + "."] = (crate, module)
-        for name in listed.split(", "):
+        for name in re.split(r",\s*", listed.strip(" ,\n")):
             given, _, local = name.partition(" as ")
             found[local or given] = (crate, module, given)
     return found
@@ -83,21 +88,22 @@ def reached(texts, uses):
 
 
 def paths_wrong():
-    kept = {os.path.basename(path) for path in glob.glob("**", recursive=True)}
+    kept = {os.path.basename(path) for path in glob.glob("**", recursive=True) if not made(path)}
     for document in ["README.md", *sorted(glob.glob("docs/*.md"))]:
         for path in sorted(spans(document)[0] - kept):
             places = [front + path.replace("/NAME/", "/*/") for front in ("", "crates/", "crates/*/")]
             places.append("crates/" + path.replace("/", "/must-fail/", 1) + ".edit")
-            if not path.startswith("target/") and not any(glob.glob(place) for place in places):
+            if not made(path) and not any(glob.glob(place) for place in places):
                 yield f"{document}: {path} is not there"
 
 
 def names_wrong(document, texts, public):
-    code = [(path, read(path)) for path in glob.glob("crates/**", recursive=True) if path.endswith((".antt", ".rt"))]
+    code = [(path, read(path)) for path in glob.glob("crates/**", recursive=True) if path.endswith((".antt", ".rt")) and not made(path)]
     defined = {os.path.basename(path).split(".")[0] for path, _ in code} | {*os.listdir("crates"), "requires", "ensures"}
+    own = "|".join(os.listdir("crates"))
     for path, text in code:
         defined |= set(re.findall(DEFINED[os.path.splitext(path)[1]], text, re.M))
-        defined |= {name for listed in re.findall(r"use (?!Rattle)[\w.]+\.\{(.*?)\}", text) for name in listed.split(", ")}
+        defined |= {name for listed in re.findall(rf"use (?!Rattle\.(?:{own})\.)[\w.]+\.\{{([^}}]*)\}}", text) for name in re.split(r",\s*", listed)}
     defined |= {os.path.basename(path)[: -len(".edit")] for path in glob.glob("crates/*/must-fail/*.edit")}
     words = defined | {word for _, text in code for word in re.findall(WORD, text)}
     for span in sorted(spans(document)[1]):
@@ -106,7 +112,7 @@ def names_wrong(document, texts, public):
         unknown = [word for word in re.findall(WORD, head) if len(word) > 1 and word not in words]
         if unknown or re.fullmatch(WORD, head) and head not in defined or crate and (crate, name) not in public:
             yield f"{document}: in `{span}`: {' '.join(unknown) or head} is not in the tree"
-        elif re.fullmatch(WORD, module) and (module, name) not in {one[1:] for one in texts}:
+        elif re.fullmatch(WORD, module) and module[0].isupper() and (module, name) not in {one[1:] for one in texts}:
             yield f"{document}: {name} is not defined in a module {module} of specs"
 
 

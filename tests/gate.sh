@@ -1,6 +1,6 @@
 #!/usr/bin/env bash
-# The gate: the must-fail edits' texts and names, rt ci once, then every other check on what it built. The last line is rt ci's own, printed again only
-# if all passed.
+# The gate: the must-fail edits' texts and names, rt ci once, then every other check, on what it built and on the library for C. The last line is rt ci's own,
+# printed again only if all passed.
 # With WITHOUT_RUST=1 the Rust crate and the command are not tried, and a line says so; without it cargo and rustc must be here.
 set -u
 cd "$(dirname "$0")/.." || exit 1
@@ -17,29 +17,24 @@ trap 'rm -rf "$work"' EXIT
 failures=0
 fail() { echo "gate: FAILED: $*"; failures=$((failures + 1)); }
 
-# ---- what a check writes for the moment, some thousands of files of 260 MB, goes to memory where there is room for it and a program can be run from there
-moment=${TMPDIR:-/tmp}
-if [ -z "${TMPDIR:-}" ] && [ "$(df -Pm /dev/shm 2>/dev/null | awk 'END { print $4 + 0 }')" -ge 2048 ] && ! grep -q '^[^ ]* /dev/shm [^ ]* [^ ]*noexec' /proc/mounts; then
-    moment=/dev/shm
-fi
-
-# ---- rt works as many checks at a time as there are processors, and waits for all of them before it begins the next; with twice as many no processor waits. A check takes up to 1.3 GB
-if [ -z "${RT_JOBS:-}" ] && [ "$(awk '/^MemAvailable:/ { print int($2 / 1048576) }' /proc/meminfo)" -ge 12 ]; then
-    export RT_JOBS=$((2 * $(nproc) < 8 ? 2 * $(nproc) : 8))
-fi
-
 # ---- must-fail edits: each can be applied and is named in docs/CONTRACTS.md, and each name there is an edit. Told before the long part
 tests/edit_names.py || { echo "gate: FAILED: the edits and their names"; exit 1; }
 
-# ---- rt ci: proofs, must-fail edits, programs
-began=$(date +%s)
-TMPDIR=$moment rt ci 2>&1 | tee "$work/ci"
+# ---- rt ci: layout, proofs, must-fail edits, programs. It passes with edits that are bad, which show nothing; the gate doesn't. Each line is kept with its second too
+echo "$EPOCHSECONDS rt ci begins" >"$work/stamped"
+rt ci 2>&1 | while IFS= read -r line; do
+    printf '%s\n' "$line"
+    printf '%s %s\n' "$EPOCHSECONDS" "$line" >&3
+done 3>>"$work/stamped"
 [ "${PIPESTATUS[0]}" -eq 0 ] || fail "rt ci"
+sed '1d; s/^[0-9]* //' "$work/stamped" >"$work/ci"
 last=$(tail -n 1 "$work/ci")
 [[ $last =~ ^[0-9]+\ passed,\ 0\ failed$ ]] || fail "rt ci's last line: $last"
-echo "gate: rt ci took $(($(date +%s) - began)) s"
+ok=$(grep '^rt: ok' "$work/ci" | tail -n 1)
+[ -n "$ok" ] || fail "rt ci has no line 'rt: ok'"
+[[ ! $ok =~ ,\ [0-9]+\ bad ]] || fail "bad must-fail edits: $ok"
 
-# ---- every other check on what rt ci built. They run two at a time, each with a log of its own, and the judge of rows, which is timed, alone. Then the logs are printed
+# ---- every other check. They run two at a time, each with a log of its own, and the judge of rows, which is timed, alone. Then the logs are printed
 check() { # NAME COMMAND..: runs it; its log, its status and how long it took are kept
     local name=$1 began=$EPOCHSECONDS
     shift
@@ -51,20 +46,18 @@ tell() { # NAME WHAT: prints the log, and counts a failure
     cat "$work/$1.log"
     [ "$(cat "$work/$1.status")" = 0 ] || fail "$2"
 }
-layout() { rt fmt --check >"$work/fmt" 2>&1 || { cat "$work/fmt"; return 1; }; }
-library() { TMPDIR=$moment make -s lib >"$work/lib" 2>&1 || { tail -n 20 "$work/lib"; return 1; }; }
+library() { make -s lib >"$work/lib" 2>&1 || { tail -n 20 "$work/lib"; return 1; }; }
 archivists() { cd tests/archivists && sha256sum --quiet --strict -c SHA256SUMS; }
 
-check axioms tests/axioms.py # before make lib, which has rt write its logs anew
 check library library &
-check layout layout
-check must_fail tests/must_fail.py
+check must_fail tests/must_fail.py "$work/ci"
 check documents tests/documents.py
 (check archivists archivists)
 check compare tests/compare.sh
 check worked tests/worked.py
 check tapes tests/tapes.py
 wait
+check axioms tests/axioms.py "$work/ci" "$work/lib"
 check judge tests/judge.py
 {
     if [ -n "$rust" ]; then check rust tests/rust.sh; fi
@@ -77,9 +70,6 @@ check c_interface tests/c_interface.sh
 check stores tests/stores.py
 check registers tests/registers.py
 wait
-
-# ---- the layout
-tell layout "rt fmt --check"
 
 # ---- must-fail edits: each was refused because a fact no longer holds
 tell must_fail "must-fail edits"
@@ -124,7 +114,7 @@ tell opener "the opener and the verifier written from the paper"
 
 # ---- where the time behind rt ci went, and rt ci's minutes
 echo "gate: the checks behind rt ci, two at a time: $(paste -s -d , "$work/took" | sed 's/,/, /g')"
-tests/dearest.py "$work/ci" || fail "the dearest checks and edits"
+tests/dearest.py "$work/stamped" || fail "the dearest checks and edits"
 
 [ "$failures" -eq 0 ] || { echo "gate: $failures checks failed"; exit 1; }
 echo "$last"

@@ -16,7 +16,7 @@ sys.path.insert(0, os.path.join(HERE, "archivists"))
 from archivists_rows import GOOD, active, mixed, singular, times
 import labyrinth
 
-PROGRAM = os.path.join(os.path.dirname(HERE), "target", "bin", "judge_row")
+PROGRAM = os.path.join(os.path.dirname(HERE), "crates", "judge_row", "out", "judge_row")
 PUBLISHED = bytes(labyrinth.G)
 ZERO, NEUTRAL = bytes(8), bytes([1]).ljust(8, b"\0")
 LIMIT = 0.050

@@ -472,15 +472,15 @@ TEXTS = {
         "times15": ["0x{:02X} {} ".format(*papers.PAGE_BLOCK)],
         "blocks": [f"times15 {papers.PAGE_BLOCKS[-1]} "],
         "behind15": [f"({record_length(1) - record_length(0)} * blocks r)"],
-        "recordLength": [f"= {record_length(0)} + {record_length(1) - record_length(0)} * m\n"],
+        "record_length": [f"= {record_length(0)} + {record_length(1) - record_length(0)} * m\n"],
         "front": [f"command 0x{byte:02X} " for byte, _ in papers.PAGE_HEAD],
-        "sealedCommands": ["command 0x{:02X} (take {} s)".format(*papers.PAGE_BLOCK)],
+        "sealed_commands": ["command 0x{:02X} (take {} s)".format(*papers.PAGE_BLOCK)],
         "layout": ["command 0x{:02X} ".format(papers.PAGE_TAG[0])],
     },
     "keyed_pages/specs/Refusals.antt": {
-        "forKey": [" 1) 12 "],
-        "writeLengths": [" 32) 19 ", " 16) 6\n", f" {papers.PAGE_BLOCKS[-1]}) 4 ", "(recordLength (text / 16))) 5 0"],
-        "readRefusal": ["(isRecord r) 19 ", " 20 ", "(16 * blocks r)) 5 0"],
+        "for_key": [" 1) 12 "],
+        "write_lengths": [" 32) 19 ", " 16) 6\n", f" {papers.PAGE_BLOCKS[-1]}) 4 ", "(record_length (text / 16))) 5 0"],
+        "read_refusal": ["(is_record r) 19 ", " 20 ", "(16 * blocks r)) 5 0"],
     },
 }  # fmt: skip
 

@@ -1,6 +1,6 @@
 #!/usr/bin/env python3
 """Reads every value out of docs/OPENING-A-PAGE.md and holds it to both programs: the archivists' (all values, step by step) and ours (what the
-library's functions give), through target/dist/liblabyrinth.a, which `make lib` makes; the tape to target/bin/tape_program, which `make run` makes.
+library's functions give), through target/dist/liblabyrinth.a, which `make lib` makes; the tape to crates/tape_program/out/tape_program, which `rt ci` and `make run` make.
 Then alters a digit in each line of each block in turn: each must be noticed. In each line that has a check sum it alters every digit, and exchanges
 every two bytes that differ: the check sum alone must show it. And it holds the paper's contents, editions and article to what they are taken from."""
 import ctypes
@@ -18,7 +18,7 @@ HERE = os.path.dirname(os.path.abspath(__file__))
 ROOT = os.path.dirname(HERE)
 PAPER = os.path.join(ROOT, "docs", "OPENING-A-PAGE.md")
 ARCHIVE = os.path.join(ROOT, "target", "dist", "liblabyrinth.a")
-PROGRAM = os.path.join(ROOT, "target", "bin", "tape_program")
+PROGRAM = os.path.join(ROOT, "crates", "tape_program", "out", "tape_program")
 HEADER = os.path.join(ROOT, "include", "labyrinth.h")
 sys.path[:0] = [os.path.join(HERE, "archivists"), HERE]
 import archivists_sets
@@ -1443,7 +1443,7 @@ def main():
     with tempfile.TemporaryDirectory() as place:
         LIBRARY = ours(place)
     if not os.path.exists(PROGRAM):
-        sys.exit("paper.py: target/bin/tape_program is not there: make run")
+        sys.exit("paper.py: crates/tape_program/out/tape_program is not there: make run")
     for name, check in CHECKS.items():
         COUNTED["blocks"] += 1
         try:

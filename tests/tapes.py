@@ -14,7 +14,7 @@ import time
 sys.dont_write_bytecode = True
 HERE = os.path.dirname(os.path.abspath(__file__))
 ROOT = os.path.dirname(HERE)
-PROGRAM = os.path.join(ROOT, "target", "bin", "tape_program")
+PROGRAM = os.path.join(ROOT, "crates", "tape_program", "out", "tape_program")
 TOOLS = os.path.join(ROOT, "tools")
 sys.path[:0] = [os.path.join(HERE, "archivists"), HERE]
 import labyrinth

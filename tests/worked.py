@@ -29,9 +29,9 @@ def main():
     if text.count("\nfifth b = drop 5 b ++ take 5 b\n") != 1:
         raise SystemExit("worked: FAILED: the block map is another one")
     encipher, decipher = lambda b: b[5:] + b[:5], lambda b: b[-5:] + b[:-5]
-    key = value(text, "workedKey =")
+    key = value(text, "worked_key =")
     states = archivists_wraps.states(encipher, key)
-    wanted = {f"wrapSteps fifth {t} (ICV1 ++ workedKey)\n    ≡": states[t] for t in (1, 2)} | {"wrapped fifth workedKey\n    ≡": states[-1]}
+    wanted = {f"wrap_steps fifth {t} (ICV1 ++ worked_key)\n    ≡": states[t] for t in (1, 2)} | {"wrapped fifth worked_key\n    ≡": states[-1]}
     failures, noticed = [], 0
     for before, want in wanted.items():
         got = value(text, before)
@@ -40,7 +40,7 @@ def main():
         front, behind = text.split(before)
         altered = front + before + re.sub("0x(..)", lambda byte: f"0x{int(byte[1], 16) ^ 1:02X}", behind, count=1)
         noticed += value(altered, before) != want
-    whole = value(text, "wrapped fifth workedKey\n    ≡")
+    whole = value(text, "wrapped fifth worked_key\n    ≡")
     if modes.kw_unwrap(archivists_wraps.Heard(encipher, decipher), whole) != key:
         failures.append("it is not unwrapped to the key")
     if noticed != len(wanted):
