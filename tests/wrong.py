@@ -3,9 +3,9 @@
 
     tests/wrong.py [CRATE | CRATE/LABEL]...
 
-Each edit of code is applied to a copy of its crate; a program that has this crate in it is compiled with no proof and run; and the first case is
+Each edit of code is applied to a copy of its crate; a program that has this crate in it is run with no proof, by rt try; and the first case is
 printed at which it answers otherwise than expected. The programs are tried in the order below until one shows the edit, and the unedited ones must pass
-all their cases first:
+all their cases first. Functions for C are handed to C by a program in Rattle that is written here, since rt try runs programs alone:
 
     comparison    tests/expected.py's cases, by the archivists' program and vectors and the papers' numbers
     judge_row     rows of tests/judge.py, by determinants
@@ -18,10 +18,9 @@ all their cases first:
     inner         tests/wrong/inner.txt, functions called by themselves, by what their definitions say, worked out here
     records       tests/c_interface, stores, working keys, page records and registers through the C interface: numbers by the papers, bytes by round trips and by the other functions
 
-A program that is ended by a signal or does not end answers otherwise. An edit of a definition or a contract has no program, and is listed as such. Exit
+A program that rt try stops, at an index out of bounds say, or that does not end answers otherwise. An edit of a definition or a contract has no program, and is listed as such. Exit
 status 1 if an edit is shown by no case and is no exception below, or is one and is shown, or is not there."""
 import concurrent.futures
-import ctypes
 import functools
 import glob
 import hashlib
@@ -29,7 +28,6 @@ import itertools
 import os
 import re
 import shutil
-import signal
 import subprocess
 import sys
 import tempfile
@@ -48,7 +46,7 @@ import modes
 import page_records
 import papers
 
-LIMIT = 20  # seconds of the processor for a program to answer all its cases; the unedited ones take less than two
+LIMIT = 120  # seconds for a program to answer all its cases; the unedited ones take up to 70 with rt try's checks
 
 # edits that no executed case can show, each with its reason
 EXCEPTIONS = {
@@ -70,39 +68,28 @@ def loaded(name):
     return module
 
 
-# ---- the kit and the crates
-
-
-@functools.cache
-def kit():
-    """Its folder, and the folder of what it has for this machine."""
-    rt = shutil.which("rt")
-    if rt is None:
-        raise SystemExit("wrong: rt is not here")
-    home = os.environ.get("RATTLE_HOME") or os.path.dirname(os.path.dirname(os.path.realpath(rt)))
-    return home, os.path.join(home, "on", os.uname().machine)
+# ---- the crates
 
 
 @functools.cache
 def uses():
-    """What each crate uses, the kit's libraries too."""
+    """What each crate uses."""
     found = {}
-    for path in (os.path.join(kit()[0], "libs", "libs.txt"), os.path.join(ROOT, "crates.txt")):
-        with open(path) as file:
-            for line in file:
-                name, colon, used = line.partition("#")[0].partition(":")
-                if colon:
-                    found[name.strip()] = used.split()
+    with open(os.path.join(ROOT, "crates.txt")) as file:
+        for line in file:
+            head, colon, used = line.partition("#")[0].partition(":")
+            if colon:
+                found[head.split()[0]] = used.split()
     return found
 
 
 @functools.cache
 def reached(names):
-    """All crates below these, and these."""
+    """All crates of the repository below these, and these."""
     found, todo = [], list(names)
     while todo:
         name = todo.pop()
-        if name not in found:
+        if name in uses() and name not in found:
             found.append(name)
             todo += uses()[name]
     return sorted(found)
@@ -110,8 +97,7 @@ def reached(names):
 
 def source(name):
     """The folder of a crate's code."""
-    own = os.path.join(ROOT, "crates", name, "src")
-    return own if os.path.isdir(own) else os.path.join(kit()[0], "libs", name, "src")
+    return os.path.join(ROOT, "crates", name, "src")
 
 
 # ---- edits
@@ -172,7 +158,7 @@ def edited(path, place):
     return folder if changed else None
 
 
-# ---- compiling with no proof
+# ---- programs, run with no proof
 
 
 def command(words, what):
@@ -181,98 +167,118 @@ def command(words, what):
         raise Fault(f"{what}: {(done.stderr or done.stdout).strip()[:300]}")
 
 
-def archive(name, root, below, sources, out):
-    """A library compiled with no proof, by the kit's rattle-cases, which rt try runs too: its root file, the crates below it, and the folders of those that
-    are not as they stand in the repository. Each crate is given what it uses and no more, since some have modules with the names of other crates."""
-    home, own = kit()
-    words = [os.path.join(own, "bin", "rattle-cases"), "--toolchain", os.path.join(own, "toolchain"), "--staticlib", out, root, "--crate-name", name]
-    words += ["--lib", f"std={home}/libs/std/src/lib.rt"]
-    for crate in below:
-        folder = sources.get(crate) or source(crate)
-        words += ["--lib", f"{crate}:{','.join(['std', *uses()[crate]])}={folder}/lib.rt"]
-    command(words, f"{name} does not compile")
-    return out
+def repository(place, roots, sources, made=()):
+    """A repository for rt try: crates that are made for it, with what each uses, these and all that they reach. Each has a link to its code, but those
+    made. A library for C is listed as one that other crates use."""
+    for name, below in [*made, *((name, uses()[name]) for name in reached(roots))]:
+        os.makedirs(os.path.join(place, "crates", name), exist_ok=True)
+        if name not in dict(made):
+            os.symlink(sources.get(name) or source(name), os.path.join(place, "crates", name, "src"))
+        with open(os.path.join(place, "crates.txt"), "a") as file:
+            file.write(f"{name}: {' '.join(below)}\n")
 
 
 def program(crate, sources, place):
-    """A program of the repository: its main is called from C."""
-    folder = os.path.join(place, f"{crate}.src")
-    shutil.copytree(sources.get(crate) or source(crate), folder)
-    with open(os.path.join(folder, "main.rt")) as file:
-        text = file.read()
-    if text.count("\nfn main() {") != 1:
-        raise Fault(f"{crate} has no main")
-    os.remove(os.path.join(folder, "main.rt"))
-    with open(os.path.join(folder, "lib.rt"), "w") as file:
-        file.write(text.replace("\nfn main() {", "\npub fn work() {"))
-    os.mkdir(os.path.join(place, "root"))
-    root, calls, out = os.path.join(place, "root", "lib.rt"), os.path.join(place, "main.c"), os.path.join(place, crate)
-    with open(root, "w") as file:
-        file.write(f'#[no_mangle]\npub extern "C" fn work() {{\n    {crate}::work();\n}}\n')
-    with open(calls, "w") as file:
-        file.write("void work(void);\nint main(void) { work(); return 0; }\n")
-    made = archive("called", root, reached((crate,)), {**sources, crate: folder}, os.path.join(place, "program.a"))
-    command(["gcc", "-o", out, calls, made], crate)
-    return out
+    """A program of the repository: the folder that rt try runs it in."""
+    repository(place, (crate,), sources)
+    return os.path.join(place, "crates", crate)
 
 
-def through_c(crate, sources, place):
-    """One of the libraries for C."""
-    root = os.path.join(sources.get(crate) or source(crate), "lib.rt")
-    return archive(crate, root, [name for name in reached((crate,)) if name != crate], sources, os.path.join(place, f"{crate}.a"))
+TYPES = {"usize": "size_t", "u64": "uint64_t", "u32": "uint32_t", "u16": "uint16_t", "u8": "uint8_t", None: "void"}
+
+
+def in_c(kind):
+    """A parameter's types in C: a slice is a pointer and a length."""
+    reference, mutable, slice_of, item = re.fullmatch(r"(&?)(mut )?(\[?)(\w+)\]?", kind).groups()
+    pointer = [f"{'' if mutable else 'const '}{TYPES[item]} *"] if reference else [TYPES[item]]
+    return pointer + (["size_t"] if slice_of else [])
+
+
+def exports(path):
+    """The functions for C of a file: name, types of the parameters, type of the result."""
+    with open(path) as file:
+        found = re.findall(r'^pub extern "C" fn (\w+)\((.*?)\)(?: -> (\w+))?$', re.sub(r"\s*\{$", "", file.read(), flags=re.M), re.M | re.S)
+    return [(name, re.findall(r"\w+: ([^,]+?)\s*(?:,|$)", parameters.strip()), result or None) for name, parameters, result in found]
+
+
+def handed(roots, sources, place, made=()):
+    """A program that hands each function for C of some crates to C and then has C go on, by the function `drive`; its folder. There a folder c, for rt try, gets
+    a function of each one's own name that calls it."""
+    repository(place, roots, sources, [*made, ("called", [name for name in (*dict(made), *roots)])])
+    folder = os.path.join(place, "crates", "called")
+    os.mkdir(os.path.join(folder, "src"))
+    os.mkdir(os.path.join(folder, "c"))
+    names, takes, gives, shims = [], [], [], ["#include <stddef.h>", "#include <stdint.h>"]
+    for crate in (*dict(made), *roots):
+        for name, kinds, result in exports(os.path.join(place, "crates", crate, "src", "lib.rt")):
+            names.append(name)
+            takes.append(f"    fn take_{name}(f: extern \"C\" fn({', '.join(kinds)}){f' -> {result}' if result else ''});")
+            gives.append(f"    unsafe {{ take_{name}({crate}::{name}) }};")
+            types = [kind for one in kinds for kind in in_c(one)]
+            given = ", ".join(f"{kind} a{at}" for at, kind in enumerate(types)) or "void"
+            shims.append(f"static {TYPES[result]} (*at_{name})({given});\nvoid take_{name}({TYPES[result]} (*f)({given})) {{ at_{name} = f; }}")
+            shims.append(f"{TYPES[result]} {name}({given}) {{ {'return ' if result else ''}at_{name}({', '.join(f'a{at}' for at in range(len(types)))}); }}")
+    with open(os.path.join(folder, "src", "main.rt"), "w") as file:
+        file.write("\n".join(["#![tactic(auto)]", "", 'unsafe extern "C" {', *takes, "    fn drive();", "}", "", "fn main() {", *gives, "    unsafe { drive() };", "}", ""]))
+    with open(os.path.join(folder, "c", "handed.c"), "w") as file:
+        file.write("\n".join([*shims, ""]))
+    os.mkdir(os.path.join(folder, "c", "include"))
+    with open(os.path.join(folder, "c", "include", "called.h"), "w") as file:
+        file.write("".join(f"void {name}(void);\n" for name in names) + "static const struct { const char *name; void (*at)(void); } called[] = {\n")
+        file.write("".join(f'    {{"{name}", {name}}},\n' for name in names) + "};\n")
+    return folder
+
+
+def driven(folder, files, *words):
+    """Has C go on with the main of a C program, given these words. It reads and writes files beside: rt try passes on no more than 64 and 1 MiB. All its other
+    names are hidden, since rt try takes none that the C library has, as `times`."""
+    said = ", ".join(f'"{word}"' for word in ("program", *words))
+    with open(os.path.join(folder, "c", "drive.c"), "w") as file:
+        file.write(
+            f"""#include <stdio.h>
+#include <stdlib.h>
+int main_of_it(int count, char **words);
+void drive(void)
+{{
+    char *words[] = {{{said}, NULL}};
+    if (!freopen("{os.path.join(folder, 'asked')}", "r", stdin) || !freopen("{os.path.join(folder, 'answers')}", "w", stdout)) exit(3);
+    setvbuf(stdout, NULL, _IOLBF, 0);
+    int status = main_of_it({1 + len(words)}, words);
+    fflush(stdout);
+    if (status) exit(status);
+}}
+"""
+        )
+    out = os.path.join(folder, "c", "driven.o")
+    words = ["gcc", "-std=gnu11", "-O1", "-Dmain=main_of_it", "-I", os.path.join(folder, "c", "include"), "-I", os.path.join(ROOT, "include")]
+    command([*words, "-r", "-nostdlib", "-o", out, *files], "the program in C")
+    command(["objcopy", "--keep-global-symbol=main_of_it", out], "the program in C")
+    return folder
 
 
 CIPHERS = "labyrinth_c", "rows_c", "stores_c", "blocks_c", "runs_c", "tags_c", "wraps_c"
 LIBRARIES = *CIPHERS, "pages_c", "registers_c"  # what tests/labyrinth_lines.c and tests/c_interface call
 
 
-KEPT = tempfile.TemporaryDirectory()
-
-
-@functools.cache
-def kept(crate):
-    return through_c(crate, {}, KEPT.name)
-
-
-def unedited(crate):
-    """One of the libraries for C as it stands, compiled once."""
-    with LOCKS["kept"]:
-        return kept(crate)
-
-
-def libraries(sources, place):
-    """All of them; those that an edit doesn't reach as they stand."""
-    return [through_c(crate, sources, place) if set(sources) & set(reached((crate,))) else unedited(crate) for crate in LIBRARIES]
-
-
 def lines_program(sources, place):
-    out = os.path.join(place, "lines")
-    words = ["gcc", "-std=c11", "-O1", "-I", os.path.join(ROOT, "include"), "-o", out, os.path.join(HERE, "labyrinth_lines.c")]
-    command([*words, *libraries(sources, place)], "lines")
-    return out
+    return driven(handed(LIBRARIES, sources, place), [os.path.join(HERE, "labyrinth_lines.c")])
 
 
 def records_program(sources, place):
-    out = os.path.join(place, "records")
-    words = ["gcc", "-std=gnu11", "-O1", "-I", os.path.join(ROOT, "include"), "-o", out, *sorted(glob.glob(os.path.join(HERE, "c_interface", "*.c")))]
-    command([*words, *libraries(sources, place)], "records")
-    return out
+    """With another header: what rt try compiles takes more stack than the header says of the library."""
+    folder = handed(LIBRARIES, sources, place)
+    with open(os.path.join(ROOT, "include", "labyrinth.h")) as given, open(os.path.join(folder, "c", "include", "labyrinth.h"), "w") as made:
+        made.write(re.sub("(?m)^(#define LABYRINTH_STACK) .*", r"\1 163840", given.read()))
+    return driven(folder, sorted(glob.glob(os.path.join(HERE, "c_interface", "*.c"))), "--records", "--seed", "1")
 
 
-def shown_by_records(path):
+def shown_by_records(folder):
     """What it finds wrong first."""
-    done = subprocess.run(["timeout", str(6 * LIMIT), path, "--records", "--seed", "1"], capture_output=True, text=True)
-    if done.returncode == 0:
-        return None
-    return next(iter(done.stdout.split("\n")), "").removeprefix("c_interface: ") or f"it ends with {done.returncode}"
+    wrote, ended = run(folder, b"", 12 * LIMIT)
+    return (next(iter(wrote.decode(errors="replace").split("\n")), "").removeprefix("c_interface: ") or ended) if ended else None
 
 
-def shared(made, place):
-    out = os.path.join(place, "library.so")
-    command(["gcc", "-shared", "-o", out, "-Wl,--whole-archive", made, "-Wl,--no-whole-archive"], "the library")
-    return out
-
-
+CALLS_C = os.path.join(HERE, "wrong", "calls.c")
 INNER = os.path.join(HERE, "wrong", "inner.txt")
 
 
@@ -281,26 +287,44 @@ def crates_called(path):
         return tuple(sorted(set(re.findall(r"\b(\w+)::", file.read()))))
 
 
+def rows_program(sources, place):
+    return driven(handed(("rows_c",), sources, place), [CALLS_C])
+
+
 def inner(sources, place):
-    os.mkdir(os.path.join(place, "inner"))
-    root = os.path.join(place, "inner", "lib.rt")
-    shutil.copyfile(INNER, root)
-    return shared(archive("inner", root, reached(crates_called(INNER)), sources, os.path.join(place, "inner.a")), place)
+    roots = crates_called(INNER)
+    os.makedirs(os.path.join(place, "crates", "inner", "src"))
+    shutil.copyfile(INNER, os.path.join(place, "crates", "inner", "src", "lib.rt"))
+    return driven(handed(roots, sources, place, [("inner", roots)]), [CALLS_C])
 
 
 # ---- running
 
 
-def run(words, given):
-    """What a program writes, and how it ended if it did not end well. The limit is of the processor's time, so that other work doesn't count."""
-    limited = ["sh", "-c", f'ulimit -t {LIMIT}; exec "$@"', "sh", *words]
-    done = subprocess.run(limited, input=given, capture_output=True, timeout=60 * LIMIT)
-    if done.returncode in (-signal.SIGXCPU, -signal.SIGKILL):
-        return done.stdout, f"no end in {LIMIT} s"
-    if done.returncode < 0:
-        return done.stdout, f"ended by {signal.Signals(-done.returncode).name}"
-    said = done.stderr.decode(errors="replace").strip().split("\n")[0]
-    return done.stdout, f"status {done.returncode}, {said}" if done.returncode or said else ""
+def tried_by_rt(folder, given, *words, seconds=LIMIT):
+    """What rt try gives: the program's output, and its lines on standard error."""
+    environment = {**os.environ, "RT_ALLOW_C": "called"}
+    done = subprocess.run(["rt", "try", "--seconds", str(seconds), *words], cwd=folder, input=given, capture_output=True, env=environment, timeout=60 * LIMIT)
+    told = done.stderr.decode(errors="replace").strip().split("\n")
+    if "run=none" in told[-1] or not told[-1].endswith("proved=no"):
+        raise Fault(f"rt try: {' '.join(told)[:300]}")
+    return done.stdout, told
+
+
+def run(folder, given, seconds=LIMIT):
+    """What a program writes, and how it ended if it did not end well: by rt try's words, or by what it said on standard error."""
+    driven_by_c = os.path.exists(os.path.join(folder, "c"))
+    if driven_by_c:
+        with open(os.path.join(folder, "asked"), "wb") as file:
+            file.write(given)
+    wrote, told = tried_by_rt(folder, b"" if driven_by_c else given, seconds=seconds)
+    if driven_by_c:
+        with open(os.path.join(folder, "answers"), "rb") as file:
+            wrote = file.read()
+    own = [line for line in told if not re.match(r"rt: |checked: |interpreter: |run=|the end of |\| ", line)]
+    fault = next((line.removeprefix("checked: ") for line in told if line.startswith("checked: ")), told[-1])
+    ended = re.match(r"run=ended status=0 ", told[-1]) and not own
+    return wrote, "" if ended else " ".join([fault, *own[:1]])[:200]
 
 
 def apart(want, got):
@@ -314,31 +338,49 @@ def apart(want, got):
     return f"expected {part(want)}, got {part(got)}"
 
 
+def shown_by_cases(cases, folder, place):
+    """Which of some cases, (name, what is read, what must be written), a program answers otherwise first; it is built once. And where, and what rt try says."""
+    os.mkdir(place)
+    for at, (_, given, want) in enumerate(cases):
+        for end, data in (("", given), (".stdout", want)):
+            with open(os.path.join(place, f"{at:05}{end}"), "wb") as file:
+                file.write(data)
+    _, told = tried_by_rt(folder, b"", "--cases", place)
+    before = []
+    for line in told:
+        found = re.match(r"case=(\d+) run=(.*) proved=no$", line)
+        if found and not found[2].startswith("ended status=0 ") or found and not found[2].endswith("output=expected"):
+            differs = next((re.search(r"at byte (\d+), (expected .*)", one) for one in before if one.startswith("the output differs from")), None)
+            words = re.sub(r'"((?:[^"\\]|\\.){32})(?:[^"\\]|\\.)*"(?: \(\d+ of [^)]*\))?', r'"\1.."', differs[2]) if differs else " ".join([*before[-1:], found[2]])
+            return cases[int(found[1])], differs and int(differs[1]), words
+        before = [] if found else [*before, line]
+    if f"cases={len(cases)} " not in told[-1]:
+        raise Fault(f"rt try: {told[-1][:300]}")
+    return None
+
+
 @functools.cache
 def compared():
-    """The cases of the program comparison: what it reads, what it must print, and the kind and number of each line."""
+    """The cases of the program comparison, kind by kind: what it reads, and what it must print."""
+    done = subprocess.run([os.path.join(HERE, "expected.py"), "--list"], capture_output=True, text=True, check=True).stdout
     with tempfile.TemporaryDirectory() as place:
         command([os.path.join(HERE, "expected.py"), "--all", place], "expected.py")
-        with open(os.path.join(place, "comparison.stdin"), "rb") as file:
-            given = file.read()
-        with open(os.path.join(place, "comparison.stdout")) as file:
-            want = file.read().split("\n")
-    done = subprocess.run([os.path.join(HERE, "expected.py"), "--list"], capture_output=True, text=True, check=True).stdout
-    kinds = [line.split(" ", 3) for line in done.splitlines()]
-    names = [f"'{kind}' case {i} of {count}" for name, _, count, kind in kinds if name == "comparison" for i in range(1, int(count) + 1)]
-    return given, want, names
+
+        def of(name, end):
+            with open(os.path.join(place, f"{name}.{end}"), "rb") as file:
+                return file.read()
+
+        kinds = [line.split(" ", 3) for line in done.splitlines()]
+        return [(f"'{kind}'", of(f"{name}.{at}", "stdin"), of(f"{name}.{at}", "stdout")) for name, at, _, kind in kinds if name == "comparison"]
 
 
-def shown_by_comparison(path):
-    given, want, names = compared()
-    wrote, ended = run([path], given)
-    got = wrote.decode(errors="replace").split("\n")
-    for name, right, line in zip(names, want, got):
-        if right != line:
-            return f"{name}: {apart(right, line)}{f' ({ended})' if ended else ''}"
-    if len(got) != len(want) or ended:
-        return f"{names[min(len(got) - 1, len(names) - 1)]}: {ended or 'more lines than cases'}"
-    return None
+def shown_by_comparison(folder):
+    found = shown_by_cases(compared(), folder, os.path.join(folder, "cases"))
+    if not found:
+        return None
+    (kind, _, want), at, words = found
+    line = "" if at is None else f" case {want[:at].count(10) + 1} of {want.count(10)}"
+    return f"{kind}{line}: {words}"
 
 
 @functools.cache
@@ -352,9 +394,9 @@ def asked():
     return test, cases, numbers, requests, theirs
 
 
-def shown_by_lines(path):
+def shown_by_lines(folder):
     test, cases, numbers, requests, theirs = asked()
-    wrote, ended = run(["stdbuf", "-oL", path], "".join(requests).encode())
+    wrote, ended = run(folder, "".join(requests).encode())
     got = wrote.decode(errors="replace").split("\n")[:-1]
     for i, line in enumerate(got[: len(cases)]):
         differs = test.difference(cases[i], numbers[i], line, theirs.get(i, ""))
@@ -376,8 +418,8 @@ def requested(name):
     return [(kind, test.line(request), test.expected(request)) for kind, request in made]
 
 
-def shown_by_requests(name, path):
-    wrote, ended = run(["stdbuf", "-oL", path], "".join(line for _, line, _ in requested(name)).encode())
+def shown_by_requests(name, folder):
+    wrote, ended = run(folder, "".join(line for _, line, _ in requested(name)).encode())
     got = wrote.decode(errors="replace").split("\n")[:-1]
     for i, ((kind, line, want), answer) in enumerate(zip(requested(name), got)):
         if answer != want:
@@ -395,9 +437,9 @@ def rows_to_judge():
     return test, {row: test.singular(row) for row in rows}
 
 
-def shown_by_judge(path):
+def shown_by_judge(folder):
     test, sizes = rows_to_judge()
-    wrote, ended = run([path], "".join(row.hex() + "\n" for row in sizes).encode())
+    wrote, ended = run(folder, "".join(row.hex() + "\n" for row in sizes).encode())
     got = wrote.decode(errors="replace").split("\n")
     for i, row in enumerate(sizes):
         line = got[i] if i < len(got) else ""
@@ -415,37 +457,21 @@ def tapes():
     return [case for maker in makers for case in maker()]
 
 
-def shown_by_tapes(path):
-    for name, tape, answer in tapes():
-        wrote, ended = run([path], tape)
-        if wrote != answer or ended:
-            return f"tape '{name}': {apart(answer.hex(), wrote.hex())}{f' ({ended})' if ended else ''}"
-    return None
+def shown_by_tapes(folder):
+    found = shown_by_cases(tapes(), folder, os.path.join(folder, "cases"))
+    return found and f"tape '{found[0][0]}': {f'at byte {found[1]}, ' if found[1] is not None else ''}{found[2]}"
 
 
 # ---- functions called by themselves
 
-MARGIN, MARK = 64, 0xC3
-
-
 class Lent:
-    """A buffer between two margins. A string or words with a length; or a place for one value, without."""
+    """A buffer, which tests/wrong/calls.c lends between two margins. A string or words with a length; or a place for one value, without."""
 
     def __init__(self, data, width=1, length=True, written=False):
         self.data, self.width, self.length, self.written = data, width, length, written
 
-    def lend(self):
-        whole = bytes([MARK]) * MARGIN + self.data + bytes([MARK]) * (MARGIN + -len(self.data) % 8)
-        self.room = (ctypes.c_uint64 * (len(whole) // 8)).from_buffer_copy(whole)
-        pointer = ctypes.c_void_p(ctypes.addressof(self.room) + MARGIN)
-        return [pointer, ctypes.c_uint64(len(self.data) // self.width)] if self.length else [pointer]
-
-    def back(self):
-        """What the buffer holds, or None if a margin was written to, or a buffer that is only to be read."""
-        whole = bytes(self.room)
-        now = whole[MARGIN : MARGIN + len(self.data)]
-        margins = whole[:MARGIN] + whole[MARGIN + len(self.data) :]
-        return now if set(margins) == {MARK} and (self.written or now == self.data) else None
+    def line(self):
+        return f"#{self.width}:{self.data.hex()}" if self.length else f"*{self.data.hex()}"
 
 
 def out(data, width=1):
@@ -460,26 +486,20 @@ def words(values):
     return b"".join(value.to_bytes(8, "little") for value in values)
 
 
-def called(library, function, kind, given):
-    """What a function returns, and what each buffer that it writes to then holds."""
-    lent = [Lent(value) if isinstance(value, bytes) else value for value in given]
-    call = getattr(library, function)
-    call.restype = kind
-    arguments = []
-    for value in lent:
-        arguments += value.lend() if isinstance(value, Lent) else [ctypes.c_uint64(value)]
-    result = call(*arguments)
-    buffers = [value for value in lent if isinstance(value, Lent)]
-    if any(value.back() is None for value in buffers):
+def answer(kind, lent, line):
+    """What a function returned, and what each buffer that it writes to then held, of an answer of tests/wrong/calls.c."""
+    result, *buffers = line.split(" ")
+    held = [None if text == "!" else bytes.fromhex(text.removeprefix("-")) for text in buffers]
+    if any(now is None or not (value.written or now == value.data) for value, now in zip(lent, held)):
         return "a buffer written to that is not lent for it"
-    return (*([result] if kind else []), *(value.back() for value in buffers if value.written))
+    return (*([int(result, 16) % 2**kind] if kind else []), *(now for value, now in zip(lent, held) if value.written))
 
 
 def told(values):
     return " ".join(value.hex() or "-" if isinstance(value, bytes) else str(value) for value in values) if isinstance(values, tuple) else values
 
 
-U8, U64 = ctypes.c_uint8, ctypes.c_uint64
+U8, U64 = 8, 64  # bits that a function returns
 ROWS = [papers.PUBLISHED, bytes([1]).ljust(8, b"\0"), bytes(8), bytes(range(8)), bytes(range(1, 9)), *archivists_rows.GOOD]
 
 
@@ -671,33 +691,24 @@ def register_cases(text):
             yield "register_looked_up", U8, [given, number, out(b"\x5a" * papers.ENTRY), out(b"\xa5" * 16, 8)], (answer, papers.entry_bytes(entry or papers.BLANK), words([rule, followed]))
 
 
-def shown_by_calls(maker, path):
-    """In a process of its own, which tells each case before it calls."""
-    wrote, ended = run([sys.executable, os.path.abspath(__file__), "--calls", maker, path], b"")
-    lines = wrote.decode().splitlines()
-    if lines and lines[-1].startswith("differs"):
-        return lines[-1].removeprefix("differs ")
-    if ended.startswith("status"):
-        raise Broken(f"the calls of {maker}: {ended}")
-    return f"{lines[-1] if lines else 'no call'}: {ended}" if ended else None
-
-
-def calls(maker, path):
-    library = ctypes.CDLL(path)
-    for function, kind, given, want in CALLS[maker]():
-        values = tuple(value.data if isinstance(value, Lent) else value for value in given)
-        texts = [told((value,)) for value in values]
+def shown_by_calls(maker, folder):
+    cases = [(function, kind, [Lent(value) if isinstance(value, bytes) else value for value in given], want) for function, kind, given, want in CALLS[maker]()]
+    lines = [" ".join([function, *(value.line() if isinstance(value, Lent) else f"={value}" for value in given)]) for function, _, given, _ in cases]
+    wrote, ended = run(folder, "".join(line + "\n" for line in lines).encode())
+    answers = wrote.decode().split("\n")[:-1]
+    for at, (function, kind, given, want) in enumerate(cases):
+        texts = [told((value.data if isinstance(value, Lent) else value,)) for value in given]
         name = f"{function}({', '.join(text if len(text) <= 20 else text[:16] + '..' for text in texts)})"
-        print(name, flush=True)
-        got = called(library, function, kind, given)
+        if at >= len(answers):
+            return f"{name}: {ended or 'no answer'}"
+        got = answer(kind, [value for value in given if isinstance(value, Lent)], answers[at])
         if callable(want):
             fault = want(got)
             if fault:
-                print(f"differs {name}: {fault}, got {told(got)}")
-                return
+                return f"{name}: {fault}, got {told(got)}"
         elif got != want:
-            print(f"differs {name}: {apart(told(want), told(got))}")
-            return
+            return f"{name}: {apart(told(want), told(got))}"
+    return ended or None
 
 
 CALLS = {"rows_c": rows_cases, "inner": inner_cases}
@@ -710,7 +721,7 @@ PROGRAMS = {
     "tape_program": (("tape_program",), functools.partial(program, "tape_program"), shown_by_tapes, tapes),
     "rows_c": (
         ("rows_c",),
-        lambda sources, place: shared(through_c("rows_c", sources, place), place),
+        rows_program,
         functools.partial(shown_by_calls, "rows_c"),
         lambda: None,
     ),
@@ -734,7 +745,7 @@ def shown(name, sources):
         return test(build(sources, place))
 
 
-LOCKS = {name: threading.Lock() for name in (*PROGRAMS, "kept")}
+LOCKS = {name: threading.Lock() for name in PROGRAMS}
 PASSED = []  # programs that answer every case as expected, unedited
 
 
@@ -811,10 +822,7 @@ def main(wanted):
 
 
 if __name__ == "__main__":
-    if sys.argv[1:2] == ["--calls"]:
-        calls(*sys.argv[2:])
-    else:
-        try:
-            main(sys.argv[1:])
-        except Broken as broken:
-            sys.exit(f"wrong: FAILED: {broken}")
+    try:
+        main(sys.argv[1:])
+    except Broken as broken:
+        sys.exit(f"wrong: FAILED: {broken}")
