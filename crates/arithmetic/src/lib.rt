@@ -71,7 +71,8 @@ pub fn power(a: u8, n: u32) -> u8
     let mut x = a;
     let mut m = n;
     while m != 0 {
-        if m % 2 == 1 {
+        let odd = m % 2 == 1;
+        if odd {
             let p = times(value, x);
             value = p.value;
         }

@@ -11,7 +11,8 @@ pub fn active_bytes(w: u64) -> u32
     let mut n = 0u32;
     let mut k = 0usize;
     while k < 8 {
-        if word_bytes::byte_at(w, k) != 0 {
+        let active = word_bytes::byte_at(w, k) != 0;
+        if active {
             n += 1;
         }
         k += 1;

@@ -117,7 +117,8 @@ fn add_refusal(r: Register, number: u16, replaces: u16) -> u8
     if !is_replaceable(r, replaces) {
         return 22;
     }
-    if 64 <= r.count {
+    let full = 64 <= r.count;
+    if full {
         return 23;
     }
     0

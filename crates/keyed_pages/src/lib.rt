@@ -10,7 +10,8 @@ ghost use Rattle.keyed_pages.specs.Refusals.{write_lengths};
 pub fn key_refusal(n: usize, loaded: bool, further: u8) -> u8
     ensures { result ≡ under_key n loaded (unless (eqb n 1) 12 further) }
 {
-    if n != 1 {
+    let other = n != 1;
+    if other {
         return labyrinth::under_key(n, loaded, 12);
     }
     labyrinth::under_key(n, loaded, further)

@@ -46,7 +46,8 @@ pub fn is_legal(n: usize) -> bool
     if n == 1 {
         return true;
     }
-    if n == 2 {
+    let two = n == 2;
+    if two {
         return true;
     }
     n == 4

@@ -37,7 +37,8 @@ pub fn last_block(l: [u8; 16], last: &[u8]) -> [u8; 16]
     let k2 = next_mask(k1);
     let block = padded(last);
     let mut r = [0u8; 16];
-    if last.len() == 16 {
+    let whole = last.len() == 16;
+    if whole {
         strings::xor_to(&mut r, &k1, &block);
     } else {
         strings::xor_to(&mut r, &k2, &block);

@@ -42,7 +42,8 @@ pub fn written_and_catalogued(
     let r = page_writer::write(
         store, sealing, tagging, number, day, title, start, body, mid,
     );
-    if r != 0 {
+    let stopped = r != 0;
+    if stopped {
         return refused(r);
     }
     catalogue::catalogue(mid)

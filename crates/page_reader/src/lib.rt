@@ -79,7 +79,8 @@ pub fn open(
     ensures body { dst.new ≡ outcome result (opened store sealing bytes.now) dst.old }
 {
     let number = read_refusal(store, sealing, tagging, bytes, dst.len());
-    if number == 0 {
+    let opens = number == 0;
+    if opens {
         open_body(store, sealing, bytes, dst);
     }
     number

@@ -8,7 +8,8 @@ ghost use Rattle.std.specs.Prelude.{◌≡◌, ◌&&◌, eqb};
 pub fn fit(store: usize, working: usize) -> bool
     ensures { result ≡ (eqb store 1072 && eqb working 272) }
 {
-    if store != 1072 {
+    let other = store != 1072;
+    if other {
         return false;
     }
     working == 272

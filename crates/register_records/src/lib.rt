@@ -134,7 +134,8 @@ fn lay(d: &mut [u8], at: usize, e: Entry)
 pub fn put_entry(e: Entry, d: &mut [u8])
     ensures { d.new ≡ when (eqb (length d.old) 44) (entry_bytes e) d.old }
 {
-    if d.len() != 44 {
+    let other = d.len() != 44;
+    if other {
         return;
     }
     lay(d, 0, e);

@@ -62,7 +62,8 @@ pub extern "C" fn labyrinth_register_find(
     if reg.len() != 2824 {
         return 4;
     }
-    if entry.len() != 44 {
+    let other = entry.len() != 44;
+    if other {
         return 4;
     }
     let found = key_register::look_up(register_records::register_of(reg), number);

@@ -30,7 +30,8 @@ fn row_sum(g: [u8; 8]) -> u8
 pub fn row_refusal(g: [u8; 8]) -> u8
     ensures { result ≡ row_refusal g }
 {
-    if row_sum(g) == 0 {
+    let singular = row_sum(g) == 0;
+    if singular {
         return 13;
     }
     0

@@ -80,7 +80,8 @@ pub extern "C" fn labyrinth_row_inverse(row: &[u8], dst: &mut [u8]) -> u8
         return 4;
     }
     let found = rows::inverse(eight(row));
-    if found.number != 0 {
+    let refused = found.number != 0;
+    if refused {
         return found.number;
     }
     if dst.len() != 8 {

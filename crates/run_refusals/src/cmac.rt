@@ -16,7 +16,8 @@ pub fn cmac_refusal(n: usize, tag: usize) -> u8
     if tag < 8 {
         return 11;
     }
-    if 16 < tag {
+    let long = 16 < tag;
+    if long {
         return 11;
     }
     0

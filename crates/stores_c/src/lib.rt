@@ -17,7 +17,8 @@ pub extern "C" fn labyrinth_store_fresh(store: &mut [u8]) -> u8
     ensures store { store.new ≡ outcome result (store_bytes fresh_store) store.old }
 {
     let size = store.len();
-    if size != 1072 {
+    let other = size != 1072;
+    if other {
         return 4;
     }
     written_stores::put_store(stores::fresh(), store);
@@ -39,7 +40,8 @@ pub extern "C" fn labyrinth_store_load(
     if store.len() != 1072 {
         return 4;
     }
-    if row.len() != 8 {
+    let other = row.len() != 8;
+    if other {
         return 4;
     }
     let changed = stores::load(
@@ -67,7 +69,8 @@ pub extern "C" fn labyrinth_store_take(store: &mut [u8], publisher: usize, set: 
         return 4;
     }
     let taken = stores::take(store_records::store_of(store), publisher, set);
-    if taken.number != 0 {
+    let refused = taken.number != 0;
+    if refused {
         return taken.number;
     }
     let after = taken.store;

@@ -67,7 +67,8 @@ pub fn run(tape: &[u8], answers: &mut [u8]) -> Answered
             length: 0,
         };
     }
-    if 65536 < tape.len() {
+    let long = 65536 < tape.len();
+    if long {
         answers[0] = 4;
         return Answered {
             number: 4,

@@ -7,7 +7,7 @@ use Rattle.field.specs.Field.{mul, power}
 use Rattle.field.proofs.Field.{mul_lt, one-mul, mul-one}
 use Rattle.field.proofs.Power.{square, power_none, power_lt, power_even, power_odd}
 use Rattle.arithmetic.proofs.power.Goals as goal
-use Rattle.arithmetic.proofs.power.Goals.{then-m-eq1, else-m-eq1}
+use Rattle.arithmetic.proofs.power.Goals.{then-odd, else-odd}
 use Rattle.arithmetic.proofs.power.Invariants.{Kept}
 
 -- one turn on, where m is odd and where it is even
@@ -24,9 +24,9 @@ pub loop-m-preserved : goal.loop-m-preserved
 loop-m-preserved c =
     let l = c.loop-m in
     let x = c.times-s.ensures.value in
-    elim c.if-m-eq1.branch [
-      | then-m-eq1 w ↦ odd l.value l.x l.m l.invariant w.if-m-eq1.true (w.value-is ∙ w.times-p.ensures.value) x
-      | else-m-eq1 w ↦ even l.value l.x l.m l.invariant w.if-m-eq1.false w.value-is x
+    elim c.if-odd.branch [
+      | then-odd w ↦ odd l.value l.x l.m l.invariant w.if-odd.true (w.value-is ∙ w.times-p.ensures.value) x
+      | else-odd w ↦ even l.value l.x l.m l.invariant w.if-odd.false w.value-is x
     ]
 
 pub returns : goal.returns

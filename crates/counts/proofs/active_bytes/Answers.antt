@@ -8,7 +8,7 @@ use Rattle.forms.specs.Words.{byte}
 use Rattle.judge.specs.Judge.{nonzero, active_bytes}
 use Rattle.judge.proofs.Counts.{nonzero_most, count_skip, count_take}
 use Rattle.counts.proofs.active_bytes.Goals as goal
-use Rattle.counts.proofs.active_bytes.Goals.{then-byte_at-ne0, else-byte_at-ne0}
+use Rattle.counts.proofs.active_bytes.Goals.{then-active, else-active}
 
 pub loop-k-init : goal.loop-k-init
 unfolding nonzero
@@ -21,9 +21,9 @@ pub loop-k-preserved : goal.loop-k-preserved
 loop-k-preserved c =
     let l = c.loop-k in (
       omega arith,
-      elim c.if-byte_at-ne0.branch [
-        | then-byte_at-ne0 w ↦ w.n-is ∙ count_take l.k _ l.invariant.1 c.byte_at.ensures w.if-byte_at-ne0.true
-        | else-byte_at-ne0 w ↦ w.n-is ∙ count_skip l.k _ l.invariant.1 c.byte_at.ensures w.if-byte_at-ne0.false
+      elim c.if-active.branch [
+        | then-active w ↦ w.n-is ∙ count_take l.k _ l.invariant.1 c.byte_at-active.ensures w.if-active.true
+        | else-active w ↦ w.n-is ∙ count_skip l.k _ l.invariant.1 c.byte_at-active.ensures w.if-active.false
       ],
     )
 

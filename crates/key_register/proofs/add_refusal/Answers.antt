@@ -47,11 +47,11 @@ passed c =
     ap₂ (λ (x y : Bool). tests x y (ltb (length (held a.r)) 64)) (sym n.ensures ∙ c.if-not-is_new.false)
     (sym m.ensures ∙ c.if-not-is_replaceable.false)
 
-pub returns-then-r-ge64 : goal.returns-then-r-ge64
-returns-then-r-ge64 c =
+pub returns-then-full : goal.returns-then-full
+returns-then-full c =
     let a = c.args in
-    let l = held_long a.r (long (goal.at.returns-then-r-ge64 c).Start) in
-    sym (passed (goal.at.returns-then-r-ge64 c).Else-not-is_replaceable ∙ ap (λ (b : Bool). unless b 23 0) (le-ltb (length (held a.r)) 64 (omega arith)))
+    let l = held_long a.r (long (goal.at.returns-then-full c).Start) in
+    sym (passed (goal.at.returns-then-full c).Else-not-is_replaceable ∙ ap (λ (b : Bool). unless b 23 0) (le-ltb (length (held a.r)) 64 (omega arith)))
 
 pub returns : goal.returns
 returns c =

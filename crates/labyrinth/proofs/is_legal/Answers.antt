@@ -8,10 +8,10 @@ pub returns-then-n-eq1 : goal.returns-then-n-eq1
 unfolding legal
 returns-then-n-eq1 c = one_of_first 1 2 4 _ c.if-n-eq1.true
 
-pub returns-then-n-eq2 : goal.returns-then-n-eq2
+pub returns-then-two : goal.returns-then-two
 unfolding legal
-returns-then-n-eq2 c = one_of_second 1 2 4 _ c.if-n-eq1.false c.if-n-eq2.true
+returns-then-two c = one_of_second 1 2 4 _ c.if-n-eq1.false c.if-two.true
 
 pub returns : goal.returns
 unfolding legal
-returns c = one_of_third 1 2 4 _ c.if-n-eq1.false c.if-n-eq2.false
+returns c = one_of_third 1 2 4 _ c.if-n-eq1.false c.if-two.false

@@ -18,14 +18,14 @@ under mask last {k} {b} l e p w =
     xor_whole k (take 16 (pad last)) (replicate 16 0) (omega (arith, ap length e, length_padded last)) (omega (arith, ap length e)) w p
     ∙ ap (λ (x : List ℕ). xor_bytes x (take 16 (pad last))) e
 
-pub returns-then-last-eq16 : goal.returns-then-last-eq16
-returns-then-last-eq16 c =
+pub returns-then-whole : goal.returns-then-whole
+returns-then-whole c =
     let l = c.args.l in
     under (doubled l) c.args.last.now (length_doubled l) c.next_mask-k1.ensures c.padded-block.ensures c.xor_to.ensures
-    ∙ last_whole (doubled l) (doubled (doubled l)) c.args.last.now c.if-last-eq16.true
+    ∙ last_whole (doubled l) (doubled (doubled l)) c.args.last.now c.if-whole.true
 
-pub returns-else-last-eq16 : goal.returns-else-last-eq16
-returns-else-last-eq16 c =
+pub returns-else-whole : goal.returns-else-whole
+returns-else-whole c =
     let l = c.args.l in
-    under (doubled (doubled l)) c.args.last.now (length_doubled (doubled l)) (c.next_mask-k2.ensures ∙ ap doubled c.next_mask-k1.ensures) c.padded-block.ensures c.xor_to-else-last-eq16.ensures
-    ∙ last_short (doubled l) (doubled (doubled l)) c.args.last.now (length_doubled (doubled l)) c.if-last-eq16.false
+    under (doubled (doubled l)) c.args.last.now (length_doubled (doubled l)) (c.next_mask-k2.ensures ∙ ap doubled c.next_mask-k1.ensures) c.padded-block.ensures c.xor_to-else-whole.ensures
+    ∙ last_short (doubled l) (doubled (doubled l)) c.args.last.now (length_doubled (doubled l)) c.if-whole.false

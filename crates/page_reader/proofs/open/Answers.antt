@@ -11,12 +11,12 @@ use Rattle.page_reader.proofs.open.Goals as goal
 
 pub open_body-requires : goal.open_body-requires
 open_body-requires c =
-    let t = read_taken _ _ _ _ _ c.read_refusal-number.ensures c.if-number-eq0.true in
+    let t = read_taken _ _ _ _ _ c.read_refusal-number.ensures c.if-opens.true in
     search rules
 
-pub returns-then-number-eq0 : goal.returns-then-number-eq0
-returns-then-number-eq0 c =
-    let a = c.args in record { number = c.read_refusal-number.ensures; body = c.open_body.ensures ∙ ap (λ (k : ℕ). outcome k (opened a.store a.sealing a.bytes.now) a.dst.now) (sym c.if-number-eq0.true) }
+pub returns-then-opens : goal.returns-then-opens
+returns-then-opens c =
+    let a = c.args in record { number = c.read_refusal-number.ensures; body = c.open_body.ensures ∙ ap (λ (k : ℕ). outcome k (opened a.store a.sealing a.bytes.now) a.dst.now) (sym c.if-opens.true) }
 
-pub returns-else-number-eq0 : goal.returns-else-number-eq0
-returns-else-number-eq0 c = record { number = c.read_refusal-number.ensures; body = refused_keeps _ _ _ c.if-number-eq0.false }
+pub returns-else-opens : goal.returns-else-opens
+returns-else-opens c = record { number = c.read_refusal-number.ensures; body = refused_keeps _ _ _ c.if-opens.false }

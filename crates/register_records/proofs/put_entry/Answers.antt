@@ -4,9 +4,9 @@ use Rattle.forms.proofs.Whole.{not_written}
 use Rattle.register_records.proofs.Parts.{entry_written}
 use Rattle.register_records.proofs.put_entry.Goals as goal
 
-pub returns-then-d-ne44 : goal.returns-then-d-ne44
-returns-then-d-ne44 c = not_written _ _ 44 c.if-d-ne44.true
+pub returns-then-other : goal.returns-then-other
+returns-then-other c = not_written _ _ 44 c.if-other.true
 
 pub returns : goal.returns
 returns c =
-    entry_written c.args.e c.args.d.now c.if-d-ne44.false c.lay.ensures
+    entry_written c.args.e c.args.d.now c.if-other.false c.lay.ensures

@@ -4,8 +4,8 @@ use mathlib.Core.Path.{sym, ◌∙◌}
 use Rattle.rows.proofs.Rows.{row_zero, row_iff}
 use Rattle.rows.proofs.row_refusal.Goals as goal
 
-pub returns-then-row_sum-eq0 : goal.returns-then-row_sum-eq0
-returns-then-row_sum-eq0 c = sym (row_zero c.args.g (sym c.row_sum.ensures ∙ c.if-row_sum-eq0.true))
+pub returns-then-singular : goal.returns-then-singular
+returns-then-singular c = sym (row_zero c.args.g (sym c.row_sum-singular.ensures ∙ c.if-singular.true))
 
 pub returns : goal.returns
-returns c = sym ((row_iff c.args.g).1 (λ z. c.if-row_sum-eq0.false (c.row_sum.ensures ∙ z)))
+returns c = sym ((row_iff c.args.g).1 (λ z. c.if-singular.false (c.row_sum-singular.ensures ∙ z)))

@@ -7,11 +7,11 @@ use Rattle.forms.proofs.Whole.{as_written}
 use Rattle.records.proofs.Numbers.{store_refused, store_passed}
 use Rattle.stores_c.proofs.labyrinth_store_fresh.Goals as goal
 
-pub returns-then-size-ne1072 : goal.returns-then-size-ne1072
-returns-then-size-ne1072 c = record { number = store_refused (length c.args.store.now) 0 c.if-size-ne1072.true; store = refl }
+pub returns-then-other : goal.returns-then-other
+returns-then-other c = record { number = store_refused (length c.args.store.now) 0 c.if-other.true; store = refl }
 
 pub returns : goal.returns
 returns c =
     let before = c.args.store.now in
-    let h = c.if-size-ne1072.false in
+    let h = c.if-other.false in
     record { number = store_passed (length before) 0 h; store = as_written before _ 1072 h c.put_store.ensures ∙ ap store_bytes c.fresh.ensures }

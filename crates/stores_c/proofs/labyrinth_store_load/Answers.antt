@@ -18,10 +18,10 @@ returns-then-store-ne1072 c =
     let a = c.args in
     record { number = row_first (length a.store.now) (length a.row.now) _ c.if-store-ne1072.true; store = refl }
 
-pub returns-then-row-ne8 : goal.returns-then-row-ne8
-returns-then-row-ne8 c =
+pub returns-then-other : goal.returns-then-other
+returns-then-other c =
     let a = c.args in
-    record { number = row_refused (length a.store.now) (length a.row.now) _ c.if-store-ne1072.false c.if-row-ne8.true; store = refl }
+    record { number = row_refused (length a.store.now) (length a.row.now) _ c.if-store-ne1072.false c.if-other.true; store = refl }
 
 -- what loading answered, of the store that was read
 loaded : (c : After-load-changed) → let a = c.args in
@@ -30,16 +30,16 @@ loaded c =
     let a = c.args in
     c.load-changed.ensures
     ∙ ap₂ (λ (s : Store) (g : List ℕ). load s a.publisher a.set a.substitution.now g) c.store_of.ensures
-    (c.row_at.ensures ∙ read_whole a.row.now 8 c.if-row-ne8.false)
+    (c.row_at.ensures ∙ read_whole a.row.now 8 c.if-other.false)
 
 pub returns-then-changed-ne0 : goal.returns-then-changed-ne0
 returns-then-changed-ne0 c =
     let a = c.args in
-    let both = change_refused a.store.now (row_passed (length a.store.now) (length a.row.now) _ c.if-store-ne1072.false c.if-row-ne8.false) (loaded (goal.at.returns-then-changed-ne0 c).After-load-changed)
+    let both = change_refused a.store.now (row_passed (length a.store.now) (length a.row.now) _ c.if-store-ne1072.false c.if-other.false) (loaded (goal.at.returns-then-changed-ne0 c).After-load-changed)
     (load_number_of (store_in a.store.now) a.publisher a.set a.substitution.now a.row.now) c.if-changed-ne0.true in record { number = both.0; store = both.1 }
 
 pub returns : goal.returns
 returns c =
     let a = c.args in
-    let both = change_made a.store.now (row_passed (length a.store.now) (length a.row.now) _ c.if-store-ne1072.false c.if-row-ne8.false) (loaded (goal.at.returns c).After-load-changed)
+    let both = change_made a.store.now (row_passed (length a.store.now) (length a.row.now) _ c.if-store-ne1072.false c.if-other.false) (loaded (goal.at.returns c).After-load-changed)
     (load_number_of (store_in a.store.now) a.publisher a.set a.substitution.now a.row.now) c.if-store-ne1072.false c.if-changed-ne0.false c.put_store.ensures in record { number = both.0; store = both.1 }

@@ -19,13 +19,13 @@ taken c =
     let a = c.args in
     c.take-taken.ensures ∙ ap (λ (s : Store). take s a.publisher a.set) c.store_of.ensures
 
-pub returns-then-taken-ne0 : goal.returns-then-taken-ne0
-returns-then-taken-ne0 c =
+pub returns-then-refused : goal.returns-then-refused
+returns-then-refused c =
     let a = c.args in
-    let both = change_refused a.store.now (store_passed (length a.store.now) _ c.if-store-ne1072.false) (taken (goal.at.returns-then-taken-ne0 c).After-take-taken) (take_number_of (store_in a.store.now) a.publisher a.set) c.if-taken-ne0.true in record { number = both.0; store = both.1 }
+    let both = change_refused a.store.now (store_passed (length a.store.now) _ c.if-store-ne1072.false) (taken (goal.at.returns-then-refused c).After-take-taken) (take_number_of (store_in a.store.now) a.publisher a.set) c.if-refused.true in record { number = both.0; store = both.1 }
 
 pub returns : goal.returns
 returns c =
     let a = c.args in
     let both = change_made a.store.now (store_passed (length a.store.now) _ c.if-store-ne1072.false) (taken (goal.at.returns c).After-take-taken) (take_number_of (store_in a.store.now) a.publisher a.set)
-    c.if-store-ne1072.false c.if-taken-ne0.false c.put_store.ensures in record { number = both.0; store = both.1 }
+    c.if-store-ne1072.false c.if-refused.false c.put_store.ensures in record { number = both.0; store = both.1 }

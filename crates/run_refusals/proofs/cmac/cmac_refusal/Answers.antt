@@ -15,8 +15,8 @@ returns-then-n-ne1 c = cmac_large _ _ (sym c.is_legal.ensures ∙ c.if-not-is_le
 pub returns-then-tag-lt8 : goal.returns-then-tag-lt8
 returns-then-tag-lt8 c = cmac_short _ _ c.if-n-ne1.false c.if-tag-lt8.true
 
-pub returns-then-tag-gt16 : goal.returns-then-tag-gt16
-returns-then-tag-gt16 c = cmac_long _ _ c.if-n-ne1.false c.if-tag-gt16.true
+pub returns-then-long : goal.returns-then-long
+returns-then-long c = cmac_long _ _ c.if-n-ne1.false c.if-long.true
 
 pub returns : goal.returns
-returns c = sym ((cmac_iff _ _).1 (c.if-n-ne1.false, c.if-tag-lt8.false, c.if-tag-gt16.false))
+returns c = sym ((cmac_iff _ _).1 (c.if-n-ne1.false, c.if-tag-lt8.false, c.if-long.false))
