@@ -89,7 +89,8 @@ def reached(texts, uses):
 
 def paths_wrong():
     kept = {os.path.basename(path) for path in glob.glob("**", recursive=True) if not made(path)}
-    for document in ["README.md", *sorted(glob.glob("docs/*.md"))]:
+    # but for docs/PORT.md, which speaks of what is gone
+    for document in ["README.md", *sorted({*glob.glob("docs/*.md")} - {"docs/PORT.md"})]:
         for path in sorted(spans(document)[0] - kept):
             places = [front + path.replace("/NAME/", "/*/") for front in ("", "crates/", "crates/*/")]
             places.append("crates/" + path.replace("/", "/must-fail/", 1) + ".edit")
