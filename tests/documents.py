@@ -43,7 +43,7 @@ def spans(path):
 def imported(text):
     """Of each name from a module of specs what it is: (crate, module, name); of a module under another name, that with a dot, (crate, module)."""
     found = {}
-    for crate, module, listed, alias in re.findall(r"use Rattle\.(\w+)\.specs\.(\w+)(?:\.\{([^}]*)\}| as (\w+))", text):
+    for crate, module, listed, alias in re.findall(r"use Rattle\.(\w+)\.specs\.(\w+)(?:\.\{([^}]*)\}| as ([\w-]+))", text):
         found[alias + "."] = (crate, module)
         for name in re.split(r",\s*", listed.strip(" ,\n")):
             given, _, local = name.partition(" as ")
