@@ -1,2 +1,3 @@
 pub mod BitLength
 pub mod Turns
+pub mod Eight

@@ -15,7 +15,7 @@ pub fn rotate_left(w: u64, k: usize) -> u64
     ensures { result ≡ rotl w (k % 64) }
 {
     let s = k % 64;
-    (w << s) | (w >> ((64 - s) % 64))
+    w.rotate_left(s as u32)
 }
 
 // ---- the field
@@ -31,7 +31,7 @@ fn times_x(a: u8) -> u8
 fn bit_length(b: u8) -> u32
     ensures { result ≡ bit_length 8 b }
 {
-    8 - u8::leading_zeros(b)
+    8 - b.leading_zeros()
 }
 
 // A product, and how many turns the loop took that made it.
@@ -50,20 +50,15 @@ pub fn times(a: u8, b: u8) -> Product
     let mut value = 0u8;
     let mut x = a;
     let mut y = b;
-    let mut turns = 0u32;
-    while turns < end {
-        value = value ^ ((y % 2) * x);
+    for _ in 0..end {
+        value ^= (y % 2) * x;
         x = times_x(x);
-        y = y / 2;
-        turns += 1;
+        y /= 2;
     }
-    Product {
-        value: value,
-        turns: turns,
-    }
+    Product { value, turns: end }
 }
 
-// A byte to the power n, by squares.
+// A byte to the power n, by squares. A `while`, as m halves in each turn and the loop ends after its highest one.
 pub fn power(a: u8, n: u32) -> u8
     ensures { result ≡ spec.power a n }
 {
@@ -73,12 +68,10 @@ pub fn power(a: u8, n: u32) -> u8
     while m != 0 {
         let odd = m % 2 == 1;
         if odd {
-            let p = times(value, x);
-            value = p.value;
+            value = times(value, x).value;
         }
-        let s = times(x, x);
-        x = s.value;
-        m = m / 2;
+        x = times(x, x).value;
+        m /= 2;
     }
     value
 }
@@ -100,12 +93,10 @@ pub fn times_each(w: u64, c: u8) -> u64
     let mut value = 0u64;
     let mut x = w;
     let mut y = c;
-    let mut k = 0usize;
-    while k < 8 {
-        value = value ^ ((y % 2) as u64 * x);
+    for _ in 0..u8::BITS {
+        value ^= u64::from(y % 2) * x;
         x = times_x_each(x);
-        y = y / 2;
-        k += 1;
+        y /= 2;
     }
     value
 }

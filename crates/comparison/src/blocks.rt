@@ -25,19 +25,26 @@ fn print_block(
     src: &[u8],
     dst: &mut [u8],
 ) -> io::Result<()> {
-    if kind == 8 {
-        let number = table_cipher::encipher_by_table(stores::fresh(), k, src, dst);
-        printing::answer(rt, "encipher table", number, dst)
-    } else if kind == 9 {
-        let number = matrix_cipher::encipher_by_matrix(stores::fresh(), k, src, dst);
-        printing::answer(rt, "encipher matrix", number, dst)
-    } else if kind == 10 {
-        let number = table_cipher::decipher_by_table(stores::fresh(), k, src, dst);
-        printing::answer(rt, "decipher table", number, dst)
-    } else {
-        let number = matrix_cipher::decipher_by_matrix(stores::fresh(), k, src, dst);
-        printing::answer(rt, "decipher matrix", number, dst)
-    }
+    let store = stores::fresh();
+    let (name, number) = match kind {
+        8 => (
+            "encipher table",
+            table_cipher::encipher_by_table(store, k, src, dst),
+        ),
+        9 => (
+            "encipher matrix",
+            matrix_cipher::encipher_by_matrix(store, k, src, dst),
+        ),
+        10 => (
+            "decipher table",
+            table_cipher::decipher_by_table(store, k, src, dst),
+        ),
+        _ => (
+            "decipher matrix",
+            matrix_cipher::decipher_by_matrix(store, k, src, dst),
+        ),
+    };
+    printing::answer(rt, name, number, dst)
 }
 
 fn print_key(
@@ -47,13 +54,12 @@ fn print_key(
     src: &[u8],
     dst: &mut [u8],
 ) -> io::Result<()> {
-    if kind == 18 {
-        let number = key_wrap::wrap(stores::fresh(), k, src, dst);
-        printing::answer(rt, "key wrap", number, dst)
-    } else {
-        let number = key_wrap::unwrap(stores::fresh(), k, src, dst);
-        printing::answer(rt, "key unwrap", number, dst)
-    }
+    let store = stores::fresh();
+    let (name, number) = match kind {
+        18 => ("key wrap", key_wrap::wrap(store, k, src, dst)),
+        _ => ("key unwrap", key_wrap::unwrap(store, k, src, dst)),
+    };
+    printing::answer(rt, name, number, dst)
 }
 
 pub fn print_case(rt: &impl Print, kind: u8, case: &[u8]) -> io::Result<()> {

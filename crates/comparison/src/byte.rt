@@ -10,8 +10,8 @@ fn print_tables(rt: &impl Print, b: u8) -> io::Result<()> {
     let inverse = tables::substitute_inverse(b);
     print!(rt; "tables {b:02x} {s:02x} {inverse:02x}")?;
     let merged = tables::merged_table();
-    printing::word(rt, merged[b as usize])?;
-    let m = rows::mix(published::row(), b as u64);
+    printing::word(rt, merged[usize::from(b)])?;
+    let m = rows::mix(published::row(), u64::from(b));
     printing::word(rt, m.word)
 }
 
@@ -34,11 +34,9 @@ fn print_products(rt: &impl Print, b: u8) -> io::Result<()> {
 }
 
 pub fn print_case(rt: &impl Print, kind: u8, b: u8) -> io::Result<()> {
-    if kind == 0 {
-        print_tables(rt, b)
-    } else if kind == 1 {
-        print_turns(rt, b)
-    } else {
-        print_products(rt, b)
+    match kind {
+        0 => print_tables(rt, b),
+        1 => print_turns(rt, b),
+        _ => print_products(rt, b),
     }
 }

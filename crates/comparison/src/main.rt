@@ -19,18 +19,13 @@ use tape_rules::Tape;
 
 // What stands in the line of a case, but of a step.
 fn print_case(rt: &impl Print, kind: u8, case: &[u8]) -> io::Result<()> {
-    if kind < 3 {
-        byte::print_case(rt, kind, reading::byte_at(case, 0))
-    } else if kind < 7 {
-        row::print_case(rt, kind, case)
-    } else if kind < 12 {
-        blocks::print_case(rt, kind, case)
-    } else if kind < 15 {
-        runs::print_case(rt, kind, case)
-    } else if kind < 17 {
-        tags::print_case(rt, kind, case)
-    } else {
-        blocks::print_case(rt, kind, case)
+    match kind {
+        0..=2 => byte::print_case(rt, kind, reading::byte_at(case, 0)),
+        3..=6 => row::print_case(rt, kind, case),
+        7..=11 => blocks::print_case(rt, kind, case),
+        12..=14 => runs::print_case(rt, kind, case),
+        15 | 16 => tags::print_case(rt, kind, case),
+        _ => blocks::print_case(rt, kind, case),
     }
 }
 
@@ -46,12 +41,12 @@ fn print_line(rt: &impl Print, kind: u8, case: &[u8], t: Tape) -> io::Result<Tap
 // The tape that a case leaves, or none where the input has no case more.
 fn read_case<R: Read>(rt: &impl Print, input: &mut R, t: Tape) -> io::Result<Option<Tape>> {
     let mut head = [0u8; 3];
-    if reading::read_full(input, &mut head)? != 3 {
+    if readers::read_full(input, &mut head)? != 3 {
         return Ok(None);
     }
     let mut space = given::space();
     let case = reading::front(&mut space, reading::pair_at(&head, 1));
-    reading::read_full(input, case)?;
+    readers::read_full(input, case)?;
     let left = print_line(rt, head[0], case, t)?;
     println!(rt)?;
     Ok(Some(left))

@@ -57,15 +57,11 @@ fn print_table(rt: &impl Print, g: [u8; 8], room: usize) -> io::Result<()>
 pub fn print_case(rt: &impl Print, kind: u8, case: &[u8]) -> io::Result<()> {
     let g = rows::row_of(buffers::load_word(case, 0));
     let more = buffers::load_word(case, 8);
-    if kind == 3 {
-        print_mixed(rt, g, more)
-    } else if kind == 5 {
-        print_product(rt, g, rows::row_of(more))
-    } else if kind == 6 {
-        print_inverse(rt, g)
-    } else if more <= 257 {
-        print_table(rt, g, more as usize)
-    } else {
-        Ok(())
+    match kind {
+        3 => print_mixed(rt, g, more),
+        5 => print_product(rt, g, rows::row_of(more)),
+        6 => print_inverse(rt, g),
+        _ if more <= 257 => print_table(rt, g, more as usize),
+        _ => Ok(()),
     }
 }

@@ -13,16 +13,13 @@ fn print_run(
     src: &[u8],
     dst: &mut [u8],
 ) -> io::Result<()> {
-    if kind == 12 {
-        let number = cbc::seal(stores::fresh(), k, start, src, dst);
-        printing::answer(rt, "cbc seal", number, dst)
-    } else if kind == 13 {
-        let number = cbc::open(stores::fresh(), k, start, src, dst);
-        printing::answer(rt, "cbc open", number, dst)
-    } else {
-        let number = ctr::run(stores::fresh(), k, start, q, src, dst);
-        printing::answer(rt, "ctr", number, dst)
-    }
+    let store = stores::fresh();
+    let (name, number) = match kind {
+        12 => ("cbc seal", cbc::seal(store, k, start, src, dst)),
+        13 => ("cbc open", cbc::open(store, k, start, src, dst)),
+        _ => ("ctr", ctr::run(store, k, start, q, src, dst)),
+    };
+    printing::answer(rt, name, number, dst)
 }
 
 pub fn print_case(rt: &impl Print, kind: u8, case: &[u8]) -> io::Result<()> {

@@ -8,14 +8,5 @@ ghost use Rattle.judge.specs.Judge.{active_bytes};
 pub fn active_bytes(w: u64) -> u32
     ensures { result ≡ active_bytes w }
 {
-    let mut n = 0u32;
-    let mut k = 0usize;
-    while k < 8 {
-        let active = word_bytes::byte_at(w, k) != 0;
-        if active {
-            n += 1;
-        }
-        k += 1;
-    }
-    n
+    w.to_le_bytes().iter().filter(|byte| **byte != 0).count() as u32
 }

@@ -19,10 +19,8 @@ fn spread(x: u64, i: usize, w: &mut [u64])
     requires { (i < 256) × (length w.old ≡ 2048) }
     ensures { w.new ≡ tabulate 2048 (λ k. when (eqb (k % 256) i) (rotl x (8 * (k / 256))) (get_or w.old k 0)) }
 {
-    let mut b = 0usize;
-    while b < 8 {
+    for b in 0..8 {
         w[256 * b + i] = arithmetic::rotate_left(x, 8 * b);
-        b += 1;
     }
 }
 
@@ -32,10 +30,8 @@ fn fill_words(t: &[u64], w: &mut [u64])
     ensures table { w.new ≡ eight_tables t.now }
     ensures words { (i : ℕ) → get_or t.now i 0 < 2 ^ 64 }
 {
-    let mut i = 0usize;
-    while i < 256 {
-        spread(t[i], i, w);
-        i += 1;
+    for (i, x) in t.iter().enumerate() {
+        spread(*x, i, w);
     }
 }
 
@@ -44,13 +40,9 @@ pub fn fill(t: &[u64], w: &mut [u64])
     ensures table { w.new ≡ when (eqb (length t.now) 256 && eqb (length w.old) 2048) (eight_tables t.now) w.old }
     ensures words { (i : ℕ) → get_or t.now i 0 < 2 ^ 64 }
 {
-    if t.len() != 256 {
-        return;
+    if t.len() == 256 && w.len() == 2048 {
+        fill_words(t, w);
     }
-    if w.len() != 2048 {
-        return;
-    }
-    fill_words(t, w);
 }
 
 // Whether the wider forms pay for a string of so many bytes.

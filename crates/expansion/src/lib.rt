@@ -17,25 +17,14 @@ ghost use Rattle.sets.specs.Sets.{loaded, parts_in};
 use labyrinth::{Expanded, WorkingKey};
 use sets::Store;
 
-// Where word i of half-block k_j stands.
-fn place(n: usize, j: usize, i: usize) -> usize
-    requires { Size n × (j < 8) × (i < n) }
-    ensures is { result ≡ j * n + i }
-    ensures small { result < 32 }
-{
-    j * n + i
-}
-
 // The m words of a key, with zeros behind them.
 fn load_key(m: usize, key: &[u8]) -> [u64; 32]
     requires { (m ≤ 16) × (length key.now ≡ 8 * m) }
     ensures { result ≡ padded (words m key.now) }
 {
     let mut w = [0u64; 32];
-    let mut i = 0usize;
-    while i < m {
+    for i in 0..m {
         w[i] = buffers::load_word(key, 8 * i);
-        i += 1;
     }
     w
 }
@@ -46,10 +35,8 @@ fn xor_column(n: usize, l: usize, w: &[u64; 32], i: usize) -> u64
     ensures { result ≡ xor_sum l (λ j. slice_index w.now (j * n + i)) }
 {
     let mut r = 0u64;
-    let mut j = 0usize;
-    while j < l {
-        r = r ^ w[place(n, j, i)];
-        j += 1;
+    for j in 0..l {
+        r = r ^ w[j * n + i];
     }
     r
 }
@@ -60,10 +47,8 @@ fn first_register(n: usize, l: usize, w: &[u64; 32]) -> [u64; 4]
     ensures { result ≡ four_words (register n l w.now) }
 {
     let mut g = [0u64; 4];
-    let mut i = 0usize;
-    while i < n {
+    for i in 0..n {
         g[i] = arithmetic::rotate_left(xor_column(n, l, w, i), 29);
-        i += 1;
     }
     g
 }
@@ -74,10 +59,8 @@ fn step(n: usize, g: [u64; 4]) -> [u64; 4]
     ensures { result ≡ four_words (delta n (take n g)) }
 {
     let mut r = [0u64; 4];
-    let mut i = 0usize;
-    while i < n {
-        r[i] = std::num::wrapping_add_u64(g[i], 0x1084210842108421) ^ 0x4444444444444444;
-        i += 1;
+    for i in 0..n {
+        r[i] = g[i].wrapping_add(0x1084210842108421) ^ 0x4444444444444444;
     }
     r
 }
@@ -88,11 +71,7 @@ fn half_of(n: usize, w: &[u64; 32], j: usize) -> [u64; 4]
     ensures { result ≡ four_words (half n w.now j) }
 {
     let mut r = [0u64; 4];
-    let mut i = 0usize;
-    while i < n {
-        r[i] = w[place(n, j, i)];
-        i += 1;
-    }
+    r[..n].copy_from_slice(&w[j * n..j * n + n]);
     r
 }
 
@@ -101,11 +80,7 @@ fn put(n: usize, w: &mut [u64; 32], j: usize, y: &[u64; 4])
     requires { Size n × (j < 8) }
     ensures { (ks : List ℕ) → length ks ≡ j * n → w.old ≡ padded ks → w.new ≡ padded (ks ++ tabulate n (λ i. slice_index y.now i)) }
 {
-    let mut i = 0usize;
-    while i < n {
-        w[place(n, j, i)] = y[i];
-        i += 1;
-    }
+    w[j * n..j * n + n].copy_from_slice(&y[..n]);
 }
 
 // The working key's words from those of the key: for each j from l on the register steps, and k_j is F of k_(j-1) under it,
@@ -116,8 +91,7 @@ fn grow(t: &[u64; 256], n: usize, l: usize, key: [u64; 32]) -> [u64; 32]
 {
     let mut w = key;
     let mut g = first_register(n, l, &w);
-    let mut j = l;
-    while j < 8 {
+    for j in l..8 {
         let stepped = step(n, g);
         let y = table_rounds::iteration(
             t,
@@ -128,7 +102,6 @@ fn grow(t: &[u64; 256], n: usize, l: usize, key: [u64; 32]) -> [u64; 32]
         );
         g = stepped;
         put(n, &mut w, j, &y);
-        j += 1;
     }
     w
 }

@@ -1,13 +1,12 @@
 -- One word of F by the eight tables, at every n: byte k is looked up in word k mod 4 of four words that stand in turn.
 -- Assumes nothing.
 use Rattle.std.proofs.Common.{◌≡◌, ℕ, zero, suc, ◌+◌, ◌%◌, ◌<◌, true, List, [], ◌∷◌, get_or, sym, ap, ◌∙◌, arith}
-use lib.Bits.{bit_xor}
 use Rattle.forms.specs.Lists.{xor_sum}
 use Rattle.forms.specs.Words.{byte}
 use Rattle.forms.proofs.Sums.{xor_sum_cong}
 use Rattle.labyrinth.specs.Cipher.{P}
 use Rattle.labyrinth.specs.Working.{Size, share, lookup_in}
-use Rattle.labyrinth.proofs.Sizes.{sizes, size_one}
+use Rattle.labyrinth.proofs.Sizes.{sizes}
 use Rattle.labyrinth.proofs.Permutation.{term, terms_P}
 
 -- past four the words stand as they did
@@ -31,8 +30,3 @@ by_four t n s y j h {a} {b} {c} {d} p q r u =
     (λ k l. ap (λ (w : ℕ). share true t k (byte w k))
     (in_turn (λ i. get_or y ((j + i) % n) 0) p q r u (k % 4) (omega arith) ∙ ap (λ (i : ℕ). get_or y i 0) (around n s j k)))
     ∙ sym (terms_P (share true t) n s y j h)
-
--- at n = 1 the four are one word
-pub by_one : (t : List ℕ) (v : ℕ) {x y z : ℕ} → z ≡ y → x ≡ bit_xor v (xor_sum 8 (λ k. share true t k (byte (get_or (z ∷ z ∷ z ∷ z ∷ []) (k % 4) 0) k)))
-    → x ≡ bit_xor v (lookup_in true t (get_or (P 1 (y ∷ [])) 0 0))
-by_one t v {y = y} e p = p ∙ ap (bit_xor v) (by_four t 1 size_one (y ∷ []) 0 (omega arith) e e e e)

@@ -161,9 +161,6 @@ pub record Laid (n : ℕ) (h : Halves) (j : ℕ) (x : List ℕ) : Type 0 where
   pub high : (k : ℕ) → k < j → get_or x (2 * k - k % n + n) 0 ≡ get_or h.high k 0
 
 module _ (n : ℕ) (size : Size n) (h : Halves) where
-  pub laid_none : (x : List ℕ) → length x ≡ 8 → Laid n h 0 x
-  laid_none x e = record { len = e; low = λ k l. let z : ⊥ = omega arith in absurd z; high = λ k l. let z : ⊥ = omega arith in absurd z }
-
   pub laid_more : (j : ℕ) {x : List ℕ} {v w : ℕ} → j < 4 → v ≡ get_or h.low j 0 → w ≡ get_or h.high j 0
       → Laid n h j x → Laid n h (j + 1) (set (set x (2 * j - j % n) v) (2 * j - j % n + n) w)
   laid_more j {x} {v} {w} l e f p = record {

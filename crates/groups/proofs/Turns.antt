@@ -33,9 +33,6 @@ wide_length n t s u ks b = length_store n _
 whole_group : (n : ℕ) → Size n → 64 % (16 * n) ≡ 0
 whole_group = sizes (λ n. 64 % (16 * n) ≡ 0) refl refl refl
 
-pub group_start : (n : ℕ) → Size n → (k : ℕ) → k % 64 ≡ 0 → k % (16 * n) ≡ 0
-group_start = sizes (λ n. (k : ℕ) → k % 64 ≡ 0 → k % (16 * n) ≡ 0) (λ k h. omega arith) (λ k h. omega arith) (λ k h. omega arith)
-
 module _ (n : ℕ) (size : Size n) (t s u ks : List ℕ) where
   -- the words of a group, mapped and put under a mask
   pub side_made : (given mask : List ℕ) {x y d : List ℕ} → length given ≡ 64 → x ≡ words 8 given

@@ -18,10 +18,8 @@ fn group_words(s: &[u8]) -> [u64; 8]
     ensures { result ≡ words 8 s.now }
 {
     let mut x = [0u64; 8];
-    let mut i = 0usize;
-    while i < 8 {
+    for i in 0..8 {
         x[i] = buffers::load_word(s, 8 * i);
-        i += 1;
     }
     x
 }
@@ -43,37 +41,26 @@ fn put_words(x: [u64; 8], mask: &[u8], dst: &mut [u8])
     requires { (length mask.now ≡ 64) × (length dst.old ≡ 64) }
     ensures { dst.new ≡ xor_bytes (bytes 8 x) mask.now }
 {
-    let mut i = 0usize;
-    while i < 8 {
+    for i in 0..8 {
         buffers::store_word(dst, 8 * i, x[i] ^ buffers::load_word(mask, 8 * i));
-        i += 1;
     }
 }
 
-// ---- a group from eight words to eight words, a text for each n: so each is called from one place only, and the compiler puts it into the loop
+// ---- a group from eight words to eight words: a machine text for each N, each called from one place only, so that the compiler puts it into the loop
 
-// Four blocks of n = 1, from eight words to eight words.
-fn group_1(t: &[u64; 2048], s: &[u8; 2056], u: &[u8; 2056], ks: &[u64; 80], x: [u64; 8]) -> [u64; 8]
-    ensures { result ≡ joined 1 (besides 1 (line_by (spaced_sub s.now) (spaced_sub u.now) (lookup_in true t.now) 1 ks.now) (apart 1 x)) }
+// The blocks of N words a half.
+fn group_of<const N: usize>(
+    t: &[u64; 2048],
+    s: &[u8; 2056],
+    u: &[u8; 2056],
+    ks: &[u64; 80],
+    x: [u64; 8],
+) -> [u64; 8]
+    requires { Size N }
+    ensures { result ≡ joined N (besides N (line_by (spaced_sub s.now) (spaced_sub u.now) (lookup_in true t.now) N ks.now) (apart N x)) }
 {
-    let h = group_rounds::rounds_1(t, ks, group_transforms::enter_1(s, ks, x));
-    group_transforms::leave_1(u, ks, labyrinth::exchange(h))
-}
-
-// Two blocks of n = 2, from eight words to eight words.
-fn group_2(t: &[u64; 2048], s: &[u8; 2056], u: &[u8; 2056], ks: &[u64; 80], x: [u64; 8]) -> [u64; 8]
-    ensures { result ≡ joined 2 (besides 2 (line_by (spaced_sub s.now) (spaced_sub u.now) (lookup_in true t.now) 2 ks.now) (apart 2 x)) }
-{
-    let h = group_rounds::rounds_2(t, ks, group_transforms::enter_2(s, ks, x));
-    group_transforms::leave_2(u, ks, labyrinth::exchange(h))
-}
-
-// One block of n = 4, from eight words to eight words.
-fn group_4(t: &[u64; 2048], s: &[u8; 2056], u: &[u8; 2056], ks: &[u64; 80], x: [u64; 8]) -> [u64; 8]
-    ensures { result ≡ joined 4 (besides 4 (line_by (spaced_sub s.now) (spaced_sub u.now) (lookup_in true t.now) 4 ks.now) (apart 4 x)) }
-{
-    let h = group_rounds::rounds_4(t, ks, group_transforms::enter_4(s, ks, x));
-    group_transforms::leave_4(u, ks, labyrinth::exchange(h))
+    let h = group_rounds::rounds::<N>(t, ks, group_transforms::enter::<N>(s, ks, x));
+    group_transforms::leave::<N>(u, ks, labyrinth::exchange(h))
 }
 
 // Whatever legal n is.
@@ -88,12 +75,10 @@ fn group(
     requires { Size n }
     ensures { result ≡ joined n (besides n (line_by (spaced_sub s.now) (spaced_sub u.now) (lookup_in true t.now) n ks.now) (apart n x)) }
 {
-    if n == 1 {
-        group_1(t, s, u, ks, x)
-    } else if n == 2 {
-        group_2(t, s, u, ks, x)
-    } else {
-        group_4(t, s, u, ks, x)
+    match n {
+        1 => group_of::<1>(t, s, u, ks, x),
+        2 => group_of::<2>(t, s, u, ks, x),
+        _ => group_of::<4>(t, s, u, ks, x),
     }
 }
 
@@ -133,8 +118,8 @@ fn each_group(
     requires { Size n × (length src.now % 64 ≡ 0) × (length mask.now ≡ length src.now) × (length dst.old ≡ length src.now) }
     ensures { dst.new ≡ xor_bytes (each_block (wide_lent n t.now s.now u.now ks.now) (16 * n) (when own dst.old src.now)) mask.now }
 {
-    let mut at = 0usize;
-    while at < dst.len() {
+    for i in 0..dst.len() / 64 {
+        let at = 64 * i;
         let end = at + 64;
         side_by_side(
             t,
@@ -147,7 +132,6 @@ fn each_group(
             &mask[at..end],
             &mut dst[at..end],
         );
-        at = end;
     }
 }
 

@@ -15,25 +15,24 @@ use Rattle.forms.proofs.Xor.{additive_zero}
 use Rattle.forms.proofs.Tests.{all, tested_at, tested_agree}
 use Rattle.forms.proofs.Lists.{get_d_tabulate, tabulate_cong}
 use Rattle.forms.proofs.Words.{byte_xor, byte_zero, byte_join, join_cong}
-use Rattle.buffers.specs.Words.{word_at}
 use Rattle.field.specs.Field.{mul}
 use Rattle.field.specs.Mixing.{dot, mix_by, scale}
 use Rattle.field.proofs.Field.{mul_xor_l, mul_xor_r, mul_comm, mul_assoc, mul-one, one-mul, zero-mul, mul_zero}
 use Rattle.field.proofs.Scale.{byte_scale}
 use Rattle.field.proofs.Mixing.{dot_lt, byte_mix_by, dot_xor, mix_by_xor}
 use Rattle.rows.specs.Inverse.{Row, reciprocal}
-use Rattle.rows.proofs.Ring.{bytes_of, byte_loaded}
+use Rattle.rows.proofs.Ring.{bytes_of, word_of, byte_word}
 use Rattle.rows.proofs.Inverses.{reciprocal_one}
 use Rattle.judge.specs.Elimination.{combined, cleared, Restricted, sixteen, Left}
 
 -- ---- a row as a word
 
-pub sum_of_words : (x : List ℕ) (c : ℕ) (y : List ℕ) {v w u : ℕ} → Row x → Row y → v ≡ word_at x 0 → w ≡ word_at y 0 → u ≡ scale c w
+pub sum_of_words : (x : List ℕ) (c : ℕ) (y : List ℕ) {v w u : ℕ} → Row x → Row y → v ≡ word_of x → w ≡ word_of y → u ≡ scale c w
     → bytes_of (bit_xor v u) ≡ combined x c y
 unfolding combined
 sum_of_words x c y {v} {w} {u} rx ry ev ew eu =
     tabulate_cong 8 (byte (bit_xor v u)) (λ j. bit_xor (get_or x j 0) (mul (get_or y j 0) c))
-    (λ j l. byte_xor j v u ∙ ap₂ bit_xor (byte_loaded x rx ev j l) (ap (λ (t : ℕ). byte t j) eu ∙ byte_scale c w j l ∙ ap (λ (b : ℕ). mul b c) (byte_loaded y ry ew j l)))
+    (λ j l. byte_xor j v u ∙ ap₂ bit_xor (byte_word x rx ev j l) (ap (λ (t : ℕ). byte t j) eu ∙ byte_scale c w j l ∙ ap (λ (b : ℕ). mul b c) (byte_word y ry ew j l)))
 
 -- ---- a row times a word
 

@@ -17,12 +17,15 @@ combined x c y = tabulate 8 (λ j. bit_xor (get_or x j 0) (mul (get_or y j 0) c)
 unfoldable pub cleared : List (List ℕ) → ℕ → List ℕ → List (List ℕ)
 cleared a p y = tabulate 8 (λ i. combined (get_or a i []) (get_or (get_or a i []) p 0) y)
 
--- a row's element p, a byte, is not zero, or p is 8 and all elements are
+-- a row's elements are zero
+abbrev pub Zeros : List ℕ → Type 0
+Zeros y = (j : ℕ) → j < 8 → get_or y j 0 ≡ 0
+
+-- a row's element p, a byte, is not zero
 pub record Pivot (y : List ℕ) (p : ℕ) : Type 0 where
-  pub most : p ≤ 8
+  pub inside : p < 8
   pub small : get_or y p 0 < 2 ^ 8
-  pub some : p < 8 → get_or y p 0 ≡ 0 → ⊥
-  pub none : p ≡ 8 → (j : ℕ) → j < 8 → get_or y j 0 ≡ 0
+  pub some : get_or y p 0 ≡ 0 → ⊥
 
 -- r gives what a gives at the words where y gives 0: the same there, and nothing else
 pub record Restricted (a : List (List ℕ)) (y : List ℕ) (r : List (List ℕ)) : Type 0 where

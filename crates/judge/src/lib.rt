@@ -5,10 +5,10 @@
 // everywhere.
 #![tactic(auto)]
 
-ghost use Rattle.std.specs.Prelude.{◌≡◌, ℕ, ◌≤◌, ◌<◌};
+ghost use Rattle.std.specs.Prelude.{◌≡◌, ℕ, ◌≤◌, ◌<◌, MatchOption, get_or};
 ghost use Rattle.field.specs.Mixing.{dot, mix_by};
 ghost use Rattle.judge.specs.Judge.{Judged};
-ghost use Rattle.judge.specs.Elimination.{combined, cleared, Pivot, Restricted, sixteen, Left, Found};
+ghost use Rattle.judge.specs.Elimination.{combined, cleared, Zeros, Pivot, Restricted, sixteen, Left, Found};
 
 // ---- rows
 
@@ -16,21 +16,14 @@ ghost use Rattle.judge.specs.Elimination.{combined, cleared, Pivot, Restricted, 
 fn add_times(x: [u8; 8], c: u8, y: [u8; 8]) -> [u8; 8]
     ensures { result ≡ combined x c y }
 {
-    rows::row_of(buffers::load_word(&x, 0) ^ arithmetic::times_each(buffers::load_word(&y, 0), c))
+    rows::row_of(u64::from_le_bytes(x) ^ arithmetic::times_each(u64::from_le_bytes(y), c))
 }
 
-// The place of a row's first element that is not 0; 8 if there is none.
-fn pivot(y: [u8; 8]) -> usize
-    ensures { Pivot y result }
+// The place of a row's first element that is not 0, if there is one.
+fn pivot(y: [u8; 8]) -> Option<usize>
+    ensures { MatchOption result (Zeros y) (Pivot y) }
 {
-    let mut p = 0usize;
-    while p < 8 {
-        if y[p] != 0 {
-            return p;
-        }
-        p += 1;
-    }
-    p
+    y.iter().position(|element| *element != 0)
 }
 
 // ---- the elimination
@@ -40,24 +33,21 @@ fn clear_column(a: [[u8; 8]; 8], p: usize, y: [u8; 8]) -> [[u8; 8]; 8]
     requires { p < 8 }
     ensures { result ≡ cleared a p y }
 {
-    let mut m = [[0u8; 8]; 8];
-    let mut i = 0usize;
-    while i < 8 {
-        let x = a[i];
-        m[i] = add_times(x, x[p], y);
-        i += 1;
-    }
-    m
+    a.map(
+        |x|
+            requires { p < 8 }
+            ensures { result ≡ combined x (get_or x p 0) y }
+        { add_times(x, x[p], y) },
+    )
 }
 
 // Of the words that a gives, those at whose unknowns the row y gives 0.
 fn restrict(a: [[u8; 8]; 8], y: [u8; 8]) -> [[u8; 8]; 8]
     ensures { Restricted a y result }
 {
-    let p = pivot(y);
-    if p >= 8 {
+    let Some(p) = pivot(y) else {
         return a;
-    }
+    };
     let c = arithmetic::power(y[p], 254);
     clear_column(a, p, add_times([0u8; 8], c, y))
 }
@@ -67,11 +57,9 @@ fn row_times(x: [u8; 8], a: [[u8; 8]; 8]) -> [u8; 8]
     ensures { (w : ℕ) → dot result w ≡ dot x (mix_by a w) }
 {
     let mut r = [0u8; 8];
-    let mut k = 0usize;
-    while k < 8 {
+    for k in 0..8 {
         let sum = add_times(r, x[k], a[k]);
         r = sum;
-        k += 1;
     }
     r
 }
@@ -91,13 +79,10 @@ fn byte_row(m: [[u8; 8]; 8], a: [[u8; 8]; 8], z: usize) -> [u8; 8]
 fn word_left(a: [[u8; 8]; 8]) -> u64
     ensures { Left a result }
 {
-    let mut i = 0usize;
-    while i < 8 {
-        let p = pivot(a[i]);
-        if p < 8 {
+    for row in &a {
+        if let Some(p) = pivot(*row) {
             return matrices::mix_by(a, 1u64 << (8 * p));
         }
-        i += 1;
     }
     0
 }

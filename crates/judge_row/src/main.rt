@@ -4,11 +4,9 @@
 // error, and nothing behind it is judged.
 #![tactic(auto)]
 
-ghost use Rattle.std.specs.Prelude.{◌≡◌, ◌<◌, ◌≤◌, length, take, IfOk};
-ghost use Rattle.std.specs.Io.KnownBytes.{Consumes, IsAtEnd};
+ghost use Rattle.std.specs.Prelude.{◌≡◌, length};
 
 use std::io;
-use std::io::Read;
 
 fn print_row(rt: &impl Print, g: [u8; 8]) -> io::Result<()> {
     for coefficient in g {
@@ -36,40 +34,26 @@ fn print_verdict(rt: &impl Print, g: [u8; 8]) -> io::Result<()> {
     println!(rt)
 }
 
-// What a byte of the text is: below 16 that digit, 16 for what is passed over, 17 for anything else.
-fn digit(b: u8) -> u8 {
-    if 48 <= b && b <= 57 {
-        return b - 48;
-    }
-    if 65 <= b && b <= 70 {
-        return b - 55;
-    }
-    if 97 <= b && b <= 102 {
-        return b - 87;
-    }
-    if b == 32 || b == 9 || b == 10 || b == 13 {
-        return 16;
-    }
-    17
+// What a byte of the text is.
+enum Sign {
+    Digit(u8),
+    Space,
+    Other,
 }
 
-// The row whose digits a word has, g_0 highest.
-fn row_of_digits(w: u64) -> [u8; 8] {
-    [
-        word_bytes::byte_at(w, 7),
-        word_bytes::byte_at(w, 6),
-        word_bytes::byte_at(w, 5),
-        word_bytes::byte_at(w, 4),
-        word_bytes::byte_at(w, 3),
-        word_bytes::byte_at(w, 2),
-        word_bytes::byte_at(w, 1),
-        word_bytes::byte_at(w, 0),
-    ]
+fn sign_of(b: u8) -> Sign {
+    match b {
+        b'0'..=b'9' => Sign::Digit(b - b'0'),
+        b'A'..=b'F' => Sign::Digit(b - b'A' + 10),
+        b'a'..=b'f' => Sign::Digit(b - b'a' + 10),
+        b' ' | b'\t' | b'\n' | b'\r' => Sign::Space,
+        _ => Sign::Other,
+    }
 }
 
 // How far a text has come: the digits of a row that isn't whole yet and how many they are, whether a row was judged, and whether
 // something stands there that is no row.
-#[derive(Drop)]
+#[derive(Clone, Copy)]
 struct Text {
     word: u64,
     digits: usize,
@@ -77,23 +61,25 @@ struct Text {
     wrong: bool,
 }
 
-// A byte more; with the sixteenth digit the row is judged.
+// A byte more; with the sixteenth digit the row is judged, whose digits a word has, g_0 highest.
 fn take(rt: &impl Print, t: Text, b: u8) -> io::Result<Text> {
-    let d = digit(b);
-    if t.wrong || d == 16 {
+    if t.wrong {
         return Ok(t);
     }
-    let word = (t.word << 4) | d as u64;
-    let digits = t.digits % 16 + 1;
-    if d == 17 || digits < 16 {
+    let value = match sign_of(b) {
+        Sign::Digit(value) => value,
+        Sign::Space => return Ok(t),
+        Sign::Other => return Ok(Text { wrong: true, ..t }),
+    };
+    let word = (t.word << 4) | u64::from(value);
+    if t.digits < 15 {
         return Ok(Text {
             word,
-            digits,
-            judged: t.judged,
-            wrong: d == 17,
+            digits: t.digits + 1,
+            ..t
         });
     }
-    print_verdict(rt, row_of_digits(word))?;
+    print_verdict(rt, word.to_be_bytes())?;
     Ok(Text {
         word: 0,
         digits: 0,
@@ -123,27 +109,10 @@ fn blank() -> [u8; 65536]
     [0; 65536]
 }
 
-// Reads until the buffer is full, the input ends or a read fails, and says how many bytes were read.
-fn read_text<R: Read>(input: &mut R, text: &mut [u8]) -> io::Result<usize>
-    ensures bound { IfOk result (λ count. count ≤ length text.new) }
-    ensures bytes { IfOk result (λ count. Consumes (R.remaining input.old) (R.remaining input.new) (take count text.new)) }
-    ensures end { IfOk result (λ count. count < length text.new → IsAtEnd (R.remaining input.new)) }
-{
-    let mut at = 0usize;
-    while at < text.len() {
-        let more = input.read(&mut text[at..])?;
-        if more == 0 {
-            break;
-        }
-        at += more;
-    }
-    Ok(at)
-}
-
 // Of a text of 65,536 bytes or more the first so many are read. A read or a write that fails ends the program with its error.
 fn main(rt: HostRuntime) -> io::Result<()> {
     let mut space = blank();
-    let got = read_text(&mut rt.stdin(), &mut space)?;
+    let got = readers::read_full(&mut rt.stdin(), &mut space)?;
     let t = judge_rows(&rt, &space[..got])?;
     if t.wrong || t.digits != 0 || !t.judged {
         eprintln!(rt; "judge_row: a row is sixteen hexadecimal digits")?;

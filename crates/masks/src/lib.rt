@@ -11,7 +11,7 @@ fn next_mask(x: [u8; 16]) -> [u8; 16]
     let mut r = x;
     numbers::double_into(&mut r);
     if 128 <= x[0] {
-        r[15] = r[15] ^ 0x87;
+        r[15] ^= 0x87;
     }
     r
 }
@@ -36,12 +36,9 @@ pub fn last_block(l: [u8; 16], last: &[u8]) -> [u8; 16]
     let k1 = next_mask(l);
     let k2 = next_mask(k1);
     let block = padded(last);
-    let mut r = [0u8; 16];
     let whole = last.len() == 16;
-    if whole {
-        strings::xor_to(&mut r, &k1, &block);
-    } else {
-        strings::xor_to(&mut r, &k2, &block);
-    }
+    let mask = if whole { k1 } else { k2 };
+    let mut r = [0u8; 16];
+    strings::xor_to(&mut r, &mask, &block);
     r
 }

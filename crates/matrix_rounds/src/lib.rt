@@ -21,13 +21,11 @@ fn perm_word(n: usize, x: &[u64; 4], ks: &[u64; 80], at: usize, j: usize) -> u64
     ensures { result ≡ slice_index (P n (zip n plus (take n x.now) (words_from n at ks.now))) j }
 {
     let mut r = 0u64;
-    let mut b = 0usize;
-    while b < 8 {
+    for b in 0..8 {
         let i = (j + b) % n;
-        let y = std::num::wrapping_add_u64(x[i], ks[at + i]);
-        let v = word_bytes::byte_at(y, b) as u64;
+        let y = x[i].wrapping_add(ks[at + i]);
+        let v = u64::from(word_bytes::byte_at(y, b));
         r = (v << (8 * b)) | r;
-        b += 1;
     }
     r
 }
@@ -47,13 +45,11 @@ fn round(
 {
     let c = published::constants();
     let x = *r;
-    let mut j = 0usize;
-    while j < n {
+    for j in 0..n {
         let w = matrices::mix_by(m, mixing::substitute_bytes(s, perm_word(n, &x, ks, at, j)));
         let v = (l[j] ^ c[j]) ^ w;
         l[j] = r[j];
         r[j] = v;
-        j += 1;
     }
 }
 
@@ -62,14 +58,13 @@ fn round(
 pub fn rounds(s: &[u8; 256], m: [[u8; 8]; 8], n: usize, ks: &[u64; 80], h: Halves) -> Halves
     ensures { result ≡ when (legal n) (laid n (iterations (λ w. mix_by m (each_byte (sub s.now) w)) n (λ i. half n ks.now (i + 2)) 16 (block_in n h)) h) h }
 {
-    let mut l = h.high;
-    let mut r = h.low;
-    if n == 1 || n == 2 || n == 4 {
-        let mut at = 2 * n;
-        while at < 18 * n {
-            round(s, m, n, ks, at, &mut l, &mut r);
-            at += n;
-        }
+    if !labyrinth::is_legal(n) {
+        return h;
     }
-    Halves { high: l, low: r }
+    let mut high = h.high;
+    let mut low = h.low;
+    for i in 2..18 {
+        round(s, m, n, ks, i * n, &mut high, &mut low);
+    }
+    Halves { high, low }
 }

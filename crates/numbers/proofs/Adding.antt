@@ -1,12 +1,12 @@
 -- Laws of the carry, as the loops that add and double hand it up.
 -- Assumes nothing.
 use mathlib.Core.Path.{◌≡◌, sym, ap, ap₂, ◌∙◌}
-use mathlib.Core.List.{List, [], ◌∷◌, ◌++◌, append_assoc, append-nil}
+use mathlib.Core.List.{List, [], ◌∷◌, ◌++◌, append_assoc}
 use Prim.Native.Nat.{ℕ, suc, ◌+◌, ◌-◌, ◌*◌, ◌/◌, ◌%◌, ◌≤◌, ◌<◌}
 use native.Mathlib.Nat.{add-zero, one-mul, mul-add, mul_assoc}
 use native.Mathlib.Omega.{arith}
 use lib.ListN.{length, get_or, take, drop, set, length-set, take-append-drop}
-use lib.Seq.{take-suc, drop-cons, drop-set-lt, take-set-le, take-take, get_or-set_same, take-length, drop-length, length-take-le}
+use lib.Seq.{take-suc, drop-cons, drop-set-lt, take-set-le, take-take, get_or-set_same, length-take-le}
 use Rattle.forms.specs.Lists.{tabulate}
 use Rattle.forms.specs.Strings.{number, string}
 use Rattle.forms.proofs.Bytes.{Bytes, take_bytes}
@@ -15,10 +15,6 @@ use Rattle.forms.proofs.Strings.{number_snoc, string_suc, string_number}
 -- what is to become of c, k times itself and more, where the carry stands before its byte i
 abbrev pub scaled : ℕ → List ℕ → ℕ → ℕ → List ℕ
 scaled k c i carry = string i (k * number (take i c) + carry) ++ drop i c
-
-pub scaled_first : (k : ℕ) (c : List ℕ) (v : ℕ) → scaled k c (length c) v ≡ string (length c) (k * number c + v)
-scaled_first k c v =
-    ap₂ (λ (a b : List ℕ). string (length c) (k * number a + v) ++ b) (take-length c) (drop-length c) ∙ append-nil (string (length c) (k * number c + v))
 
 -- a turn: byte j takes the sum's low byte, and the rest is the next carry
 turn : (k : ℕ) (c : List ℕ) (j carry : ℕ) {x next : ℕ} → j < length c → x ≡ (k * get_or c j 0 + carry) % 256 → next ≡ (k * get_or c j 0 + carry) / 256
@@ -50,9 +46,6 @@ scaled_all k c i carry e = ap (λ (j : ℕ). scaled k c j carry) e
 
 abbrev pub added : List ℕ → ℕ → ℕ → List ℕ
 added = scaled 1
-
-pub added_first : (c : List ℕ) (v : ℕ) → added c (length c) v ≡ string (length c) (number c + v)
-added_first c v = scaled_first 1 c v ∙ ap (λ (n : ℕ). string (length c) (n + v)) (one-mul (number c))
 
 -- byte i - 1 takes the carry's low byte
 pub added_next : (c : List ℕ) (i carry : ℕ) {x : ℕ} → 0 < i → i ≤ length c → x ≡ (get_or c (i - 1) 0 + carry % 256) % 256

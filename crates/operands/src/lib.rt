@@ -12,22 +12,13 @@ ghost use Rattle.operands.specs.Operands as spec;
 pub fn mix_bytes(b: &[u8; 8]) -> [u8; 8]
     ensures { result ≡ bytes 1 (each 1 (mix row) (words 1 b.now)) }
 {
-    let mut r = [0u8; 8];
-    let m = rows::mix(published::row(), buffers::load_word(b, 0));
-    buffers::store_word(&mut r, 0, m.word);
-    r
+    let m = rows::mix(published::row(), u64::from_le_bytes(*b));
+    m.word.to_le_bytes()
 }
 
 // Whether every byte is zero.
 pub fn zeros(s: &[u8]) -> bool
     ensures { result ≡ spec.zeros s.now }
 {
-    let mut i = 0usize;
-    while i < s.len() {
-        if s[i] != 0 {
-            return false;
-        }
-        i += 1;
-    }
-    true
+    s.iter().all(|x| *x == 0)
 }

@@ -12,7 +12,7 @@ fn block_command(block: &[u8]) -> [u8; 17]
 {
     let mut r = [0u8; 17];
     r[0] = 0x15;
-    strings::copy_into(&mut r[1..17], block);
+    r[1..].copy_from_slice(block);
     r
 }
 
@@ -21,15 +21,10 @@ fn move_blocks(d: &mut [u8], count: usize)
     requires { length d.old ≡ 17 * count }
     ensures { d.new ≡ sealed_commands count (drop count d.old) }
 {
-    let mut at = 0usize;
-    let mut from = count;
-    while at < d.len() {
-        let end = at + 17;
-        let next = from + 16;
-        let c = block_command(&d[from..next]);
-        strings::copy_into(&mut d[at..end], &c);
-        at = end;
-        from = next;
+    for i in 0..count {
+        let from = count + 16 * i;
+        let c = block_command(&d[from..from + 16]);
+        d[17 * i..17 * i + 17].copy_from_slice(&c);
     }
 }
 
@@ -51,15 +46,8 @@ fn gather_blocks(commands: &[u8], d: &mut [u8])
     requires { (length commands.now ≡ 17 * (length commands.now / 17)) × (length d.old ≡ 16 * (length commands.now / 17)) }
     ensures { d.new ≡ sealed_operands (length commands.now / 17) commands.now }
 {
-    let mut at = 0usize;
-    let mut from = 0usize;
-    while at < d.len() {
-        let end = at + 16;
-        let next = from + 17;
-        let first = from + 1;
-        strings::copy_into(&mut d[at..end], &commands[first..next]);
-        at = end;
-        from = next;
+    for i in 0..commands.len() / 17 {
+        d[16 * i..16 * i + 16].copy_from_slice(&commands[17 * i + 1..17 * i + 17]);
     }
 }
 

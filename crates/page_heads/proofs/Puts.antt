@@ -2,25 +2,28 @@
 -- Assumes nothing.
 use mathlib.Core.Path.{◌≡◌, sym, ap, ◌∙◌}
 use mathlib.Core.List.{List, [], ◌∷◌, ◌++◌, append-nil}
-use Prim.Native.Nat.{ℕ, suc, ◌+◌, ◌-◌, ◌≤◌}
+use Prim.Native.Nat.{ℕ, suc, ◌+◌, ◌-◌, ◌%◌, ◌≤◌}
+use native.Mathlib.Nat.{div-one}
 use native.Mathlib.Omega.{arith}
 use lib.ListN.{length, take, drop, set, drop_of_length-le}
 use lib.Seq.{take_all}
+use Rattle.std.specs.Int.{w32, bytes_low_first, to_le_bytes}
+use Rattle.forms.specs.Lists.{tabulate}
+use Rattle.forms.specs.Words.{byte}
 use Rattle.forms.proofs.Parts.{part_kept, part_turn}
-use Rattle.strings.proofs.Laying.{copy_whole}
-use Rattle.pages.specs.Pages.{command}
+use Rattle.pages.specs.Pages.{command, four_bytes}
 
--- a byte is set at the front, and the part behind it comes back as ys
-pub put_behind : (d ys xs : List ℕ) (c : ℕ) → length d ≡ 1 + length xs → length ys ≡ length (take (length (set d 0 c) - 1) (drop 1 (set d 0 c)))
-    → ys ≡ take (length (take (length (set d 0 c) - 1) (drop 1 (set d 0 c)))) xs ++ drop (length xs) (take (length (set d 0 c) - 1) (drop 1 (set d 0 c)))
+-- a byte is set at the front, and the part behind it comes back as the operand
+pub put_behind : (d xs : List ℕ) (c : ℕ) {ys : List ℕ} → length d ≡ 1 + length xs → ys ≡ xs
     → take 1 (set d 0 c) ++ (ys ++ drop (length (set d 0 c) - 1) (drop 1 (set d 0 c))) ≡ command c xs
-put_behind [] ys xs c l k e = let z : ⊥ = omega arith in absurd z
-put_behind (x ∷ d) ys xs c l k e =
-    let n : suc (length d) - 1 ≡ length d = omega arith in
-    let t : take (suc (length d) - 1) d ≡ d = take_all (suc (length d) - 1) d (omega arith) in
-    let m : length ys ≡ length xs = omega (arith, ap length t) in
-    ap (λ (y : List ℕ). c ∷ (ys ++ y)) (drop_of_length-le d {i = suc (length d) - 1} (omega arith))
-    ∙ ap (λ (y : List ℕ). c ∷ y) (append-nil ys ∙ copy_whole (take (suc (length d) - 1) d) m e k)
+put_behind [] xs c l e = let z : ⊥ = omega arith in absurd z
+put_behind (x ∷ d) xs c {ys} l e =
+    ap (λ (y : List ℕ). c ∷ (ys ++ y)) (drop_of_length-le d {i = suc (length d) - 1} (omega arith)) ∙ ap (λ (y : List ℕ). c ∷ y) (append-nil ys ∙ e)
+
+-- the library's bytes of a number
+pub number_bytes : (v : ℕ) → to_le_bytes w32 v ≡ four_bytes v
+unfolding four_bytes tabulate byte
+number_bytes v = ap (λ (x : ℕ). x % 256 ∷ bytes_low_first 1 3 v) (sym (div-one v))
 
 -- ---- parts one after another
 

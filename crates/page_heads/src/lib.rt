@@ -5,24 +5,13 @@ ghost use Rattle.std.specs.Prelude.{◌≡◌, ◌++◌, ◌+◌, eqb, length};
 ghost use Rattle.forms.specs.Refusals.{unless, outcome};
 ghost use Rattle.pages.specs.Pages.{command, four_bytes};
 
-// The four bytes of a number, lowest first.
-fn four_bytes(v: u32) -> [u8; 4]
-    ensures { result ≡ four_bytes v }
-{
-    let a = (v % 256) as u8;
-    let b = (v / 256 % 256) as u8;
-    let c = (v / 65536 % 256) as u8;
-    let d = (v / 16777216 % 256) as u8;
-    [a, b, c, d]
-}
-
 // A command with its operand, in a buffer of their length.
 fn lay_command(d: &mut [u8], c: u8, operand: &[u8])
     requires { length d.old ≡ 1 + length operand.now }
     ensures { d.new ≡ command c operand.now }
 {
     d[0] = c;
-    strings::copy_into(&mut d[1..], operand);
+    d[1..].copy_from_slice(operand);
 }
 
 // A command with its operand: 5 for a buffer of another length.
@@ -51,10 +40,8 @@ pub fn put_head(number: u32, day: u32, title: &[u8], start: &[u8], d: &mut [u8])
     if d.len() != 60 {
         return 5;
     }
-    let a = four_bytes(number);
-    let b = four_bytes(day);
-    lay_command(&mut d[0..5], 0x10, &a);
-    lay_command(&mut d[5..10], 0x11, &b);
+    lay_command(&mut d[0..5], 0x10, &number.to_le_bytes());
+    lay_command(&mut d[5..10], 0x11, &day.to_le_bytes());
     lay_command(&mut d[10..43], 0x12, title);
     lay_command(&mut d[43..60], 0x13, start);
     0

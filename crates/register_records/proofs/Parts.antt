@@ -1,46 +1,40 @@
 -- Parts of a register that are read and written one after another.
 -- Assumes nothing.
-use mathlib.Core.Path.{◌≡◌, refl, sym, ap, ◌∙◌}
+use mathlib.Core.Path.{◌≡◌, refl, sym, ap, ap₂, ◌∙◌}
 use mathlib.Core.Bool.{true}
-use mathlib.Core.List.{List, ◌++◌, append_assoc, append-nil}
+use mathlib.Core.List.{List, ◌++◌, append-nil}
 use Prim.Native.Nat.{ℕ, ◌+◌, ◌*◌, ◌≤◌, ◌<◌}
-use native.Mathlib.Numerals.{add-one}
 use native.Mathlib.Omega.{arith}
 use borrow.Author.Tests.{eq-eqb, ne_eqb, lt-ltb, le-ltb}
 use lib.Dec.{eqb}
-use lib.ListN.{length, set, take, drop, drop_of_length-le}
-use lib.Seq.{sets-eq}
+use lib.ListN.{length, drop_of_length-le}
 use Rattle.forms.specs.Lists.{tabulate, when}
-use Rattle.forms.specs.Words.{byte, join}
+use Rattle.forms.specs.Words.{byte}
 use Rattle.forms.proofs.Bytes.{Bytes}
 use Rattle.forms.proofs.Buffers.{put, put_put}
 use Rattle.forms.proofs.Whole.{written}
 use Rattle.buffers.specs.Words.{word_at, with_word}
-use Rattle.buffers.proofs.Words.{with_word_lem}
+use Rattle.buffers.proofs.Words.{copied, copied_put, with_word_lem}
+use Rattle.word_bytes.proofs.Words.{le_two_bytes}
+use Rattle.std.specs.Int.{w16, to_le_bytes}
 use Rattle.registers.specs.declared.Entry.{Entry}
 use Rattle.registers.specs.Registers.{extended}
 use Rattle.register_layout.specs.Layout.{two_bytes, entry_bytes, register_in, register_bytes, has_room}
 use Rattle.register_layout.proofs.Registers.{one_more}
 
--- a number as the code sums it up
-pub join_two : (g : ℕ → ℕ) {a b : ℕ} → a ≡ g 0 → b ≡ g 1 → a + 256 * b ≡ join 2 g
-unfolding join
-join_two g p q = omega arith
-
--- the two bytes of a number, one by one
-pub put_two : (d : List ℕ) (at v : ℕ) {a b : ℕ} → at + 2 ≤ length d → a ≡ byte v 0 → b ≡ byte v 1 → set (set d at a) (at + 1) b ≡ put at 2 (two_bytes v) d
-unfolding two_bytes tabulate
-put_two d at v l p q = rw (p, q, add-one) (sets-eq (tabulate 2 (byte v)) d at l ∙ append_assoc (take at d) (tabulate 2 (byte v)) (drop (at + 2) d))
-
 -- an entry's numbers, and its key behind them
-pub entry_laid : (e : Entry) (d : List ℕ) (at : ℕ) {d₁ d₂ d₃ : List ℕ} → at + 44 ≤ length d
-    → d₁ ≡ put at 2 (two_bytes e.number) d → d₂ ≡ put (at + 2) 2 (two_bytes e.replaces) d₁ → d₃ ≡ put (at + 4) 40 e.key d₂ → d₃ ≡ put at 44 (entry_bytes e) d
+pub entry_laid : (e : Entry) (d : List ℕ) (at : ℕ) {n m k : List ℕ} → at + 44 ≤ length d → n ≡ to_le_bytes w16 e.number → m ≡ to_le_bytes w16 e.replaces → k ≡ e.key
+    → copied (at + 4) (at + 44) k (copied (at + 2) (at + 4) m (copied at (at + 2) n d)) ≡ put at 44 (entry_bytes e) d
 unfolding entry_bytes two_bytes tabulate
-entry_laid e d at h p q r =
-    let n : List ℕ = tabulate 2 (byte e.number) in
-    let m : List ℕ = tabulate 2 (byte e.replaces) in
-    r ∙ ap (put (at + 4) 40 e.key) (q ∙ ap (put (at + 2) 2 m) p ∙ put_put d n at 2 refl (omega arith) m 2)
-    ∙ put_put d (n ++ m) at 4 refl (omega arith) e.key 40
+entry_laid e d at {n} {m} {k} h p q r =
+    let x : List ℕ = tabulate 2 (byte e.number) in
+    let y : List ℕ = tabulate 2 (byte e.replaces) in
+    copied_put (at + 4) (at + 44) 40 k _ (omega arith)
+    ∙ ap₂ (put (at + 4) 40) r
+    (copied_put (at + 2) (at + 4) 2 m _ (omega arith)
+    ∙ ap₂ (put (at + 2) 2) (q ∙ le_two_bytes e.replaces) (copied_put at (at + 2) 2 n d (omega arith) ∙ ap (λ (z : List ℕ). put at 2 z d) (p ∙ le_two_bytes e.number))
+    ∙ put_put d x at 2 refl (omega arith) y 2)
+    ∙ put_put d (x ++ y) at 4 refl (omega arith) e.key 40
 
 -- an entry in a buffer of its length
 pub entry_written : (e : Entry) (d : List ℕ) {d₁ : List ℕ} → length d ≡ 44 → d₁ ≡ put 0 44 (entry_bytes e) d → d₁ ≡ when (eqb (length d) 44) (entry_bytes e) d

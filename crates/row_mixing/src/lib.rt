@@ -13,11 +13,9 @@ fn powers(w: u64) -> [u64; 8]
 {
     let mut p = [0u64; 8];
     let mut x = w;
-    let mut t = 0usize;
-    while t < 8 {
-        p[t] = x;
+    for power in &mut p {
+        *power = x;
         x = arithmetic::times_x_each(x);
-        t += 1;
     }
     p
 }
@@ -27,10 +25,8 @@ fn at_bits(p: [u64; 8], c: u8) -> u64
     ensures { result ≡ xor_sum 8 (λ t. c / 2 ^ t % 2 * get_or p t 0) }
 {
     let mut r = 0u64;
-    let mut t = 0usize;
-    while t < 8 {
-        r = r ^ (((c >> t) % 2) as u64 * p[t]);
-        t += 1;
+    for t in 0..8 {
+        r ^= u64::from((c >> t) % 2) * p[t];
     }
     r
 }
@@ -42,10 +38,8 @@ pub fn mix_row(g: [u8; 8], w: u64) -> u64
 {
     let p = powers(w);
     let mut r = 0u64;
-    let mut k = 0usize;
-    while k < 8 {
-        r = r ^ arithmetic::rotate_left(at_bits(p, g[k]), 8 * k);
-        k += 1;
+    for k in 0..8 {
+        r ^= arithmetic::rotate_left(at_bits(p, g[k]), 8 * k);
     }
     r
 }

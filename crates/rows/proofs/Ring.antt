@@ -17,10 +17,8 @@ use Rattle.forms.specs.Lists.{tabulate, xor_sum, pick, iterate}
 use Rattle.forms.specs.Words.{byte, join}
 use Rattle.forms.proofs.Lists.{length_tabulate, tabulate_cong, tabulated}
 use Rattle.forms.proofs.Sums.{xor_sum_cong, xor_sum_lt, additive_xor_sum, xor_sum_swap, xor_sum_cycle}
-use Rattle.forms.proofs.Words.{byte_lt, join_lt, join_cong, byte_join, word_ext}
+use Rattle.forms.proofs.Words.{byte_lt, join_lt, byte_join, word_ext}
 use Rattle.forms.proofs.Bytes.{tabulate_small}
-use Rattle.buffers.specs.Words.{word_at}
-use Rattle.buffers.proofs.Words.{word_at_lem}
 use Rattle.field.specs.Field.{mul, power}
 use Rattle.field.specs.Mixing.{mix, product, row_sum, scale}
 use Rattle.field.proofs.Field.{mul_xor_l, mul_xor_r, mul_assoc, mul_lt, one-mul, mul-one, zero-mul}
@@ -45,12 +43,9 @@ bytes_row w = (length_tabulate 8 (byte w), tabulate_small 8 (byte w) (2 ^ 8) (om
 pub given_row : (g : List ℕ) (vs : List Val) → Is (Array (UInt w8) 8) g vs → Row g
 given_row g vs p = (good_length (e_int w8) 8 g vs p, λ i. (elem_Fits w8 w8 g _ i p.1.1 tt).fits)
 
--- a row in a buffer, read as a word
-pub loaded : (g : List ℕ) → Row g → word_at g 0 ≡ word_of g
-loaded g r = word_at_lem g 0 (omega (arith, r.0)) ∙ join_cong 8 (λ b. get_or g (0 + b) 0) (λ b. get_or g b 0) (λ b l. ap (λ (i : ℕ). get_or g i 0) (omega arith))
-
-pub byte_loaded : (g : List ℕ) {w : ℕ} → Row g → w ≡ word_at g 0 → (k : ℕ) → k < 8 → byte w k ≡ get_or g k 0
-byte_loaded g r e k l = ap (λ (w : ℕ). byte w k) (e ∙ loaded g r) ∙ byte_join 8 (λ i. get_or g i 0) r.1 k l
+-- its word's bytes are the row's
+pub byte_word : (g : List ℕ) {w : ℕ} → Row g → w ≡ word_of g → (k : ℕ) → k < 8 → byte w k ≡ get_or g k 0
+byte_word g r e k l = ap (λ (w : ℕ). byte w k) e ∙ byte_join 8 (λ i. get_or g i 0) r.1 k l
 
 pub bytes_word : (g : List ℕ) → Row g → bytes_of (word_of g) ≡ g
 bytes_word g r = sym (tabulated 8 (byte (word_of g)) 0 g r.0 (λ k l. sym (byte_join 8 (λ i. get_or g i 0) r.1 k l)))

@@ -18,10 +18,8 @@ fn row_sum(g: [u8; 8]) -> u8
     ensures { result ≡ row_sum g }
 {
     let mut sum = 0u8;
-    let mut i = 0usize;
-    while i < 8 {
-        sum = sum ^ g[i];
-        i += 1;
+    for coefficient in &g {
+        sum ^= *coefficient;
     }
     sum
 }
@@ -50,10 +48,7 @@ pub fn mix(g: [u8; 8], w: u64) -> Mixed
 {
     let number = row_refusal(g);
     if number != 0 {
-        return Mixed {
-            number: number,
-            word: 0,
-        };
+        return Mixed { number, word: 0 };
     }
     Mixed {
         number: 0,
@@ -67,10 +62,8 @@ fn fill(g: [u8; 8], s: &[u8; 256], table: &mut [u64])
     ensures { table.new ≡ merged g s.now }
 {
     let row = row_mixing::mix_row(g, 1);
-    let mut b = 0usize;
-    while b < 256 {
-        table[b] = arithmetic::times_each(row, s[b]);
-        b += 1;
+    for (b, entry) in table.iter_mut().enumerate() {
+        *entry = arithmetic::times_each(row, s[b]);
     }
 }
 
@@ -95,8 +88,7 @@ pub fn make_table(g: [u8; 8], table: &mut [u64]) -> u8
     if table.len() != 256 {
         return 5;
     }
-    let s = published::sbox();
-    fill(g, &s, table);
+    fill(g, &published::sbox(), table);
     0
 }
 
@@ -106,16 +98,14 @@ pub fn make_table(g: [u8; 8], table: &mut [u64]) -> u8
 pub fn row_of(w: u64) -> [u8; 8]
     ensures { result ≡ tabulate 8 (byte w) }
 {
-    let mut r = [0u8; 8];
-    buffers::store_word(&mut r, 0, w);
-    r
+    w.to_le_bytes()
 }
 
 // The product of two rows modulo x^8 + 1: the word of the one mixed by the other.
 pub fn product(g: [u8; 8], h: [u8; 8]) -> [u8; 8]
     ensures { result ≡ spec.product g h }
 {
-    row_of(row_mixing::mix_row(h, buffers::load_word(&g, 0)))
+    row_of(row_mixing::mix_row(h, u64::from_le_bytes(g)))
 }
 
 // A row to the power n, as a word: as often mixed, from the row 01 and seven 00.
@@ -123,10 +113,8 @@ fn power(g: [u8; 8], n: usize) -> u64
     ensures { result ≡ iterate n (spec.mix g) 1 }
 {
     let mut w = 1u64;
-    let mut k = 0usize;
-    while k < n {
+    for _ in 0..n {
         w = row_mixing::mix_row(g, w);
-        k += 1;
     }
     w
 }
@@ -152,8 +140,5 @@ pub fn inverse(g: [u8; 8]) -> Inverted
     let eighth = arithmetic::power(sum, 8);
     let reciprocal = arithmetic::power(eighth, 254);
     let row = row_of(arithmetic::times_each(power(g, 7), reciprocal));
-    Inverted {
-        number: 0,
-        row: row,
-    }
+    Inverted { number: 0, row }
 }

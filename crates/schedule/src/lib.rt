@@ -19,18 +19,12 @@ fn subkey(order: &[usize; 16], back: bool, i: usize) -> usize
     requires { (i < 20) × (order.now ≡ roundOrder) }
     ensures { result ≡ get_or (use_order back) i 0 }
 {
-    if i == 0 {
-        if back { 3 } else { 4 }
-    } else if i == 1 {
-        if back { 6 } else { 7 }
-    } else if i == 18 {
-        if back { 4 } else { 3 }
-    } else if i == 19 {
-        if back { 7 } else { 6 }
-    } else if back {
-        order[17 - i]
-    } else {
-        order[i - 2]
+    match i {
+        0 => if back { 3 } else { 4 },
+        1 => if back { 6 } else { 7 },
+        18 => if back { 4 } else { 3 },
+        19 => if back { 7 } else { 6 },
+        _ => if back { order[17 - i] } else { order[i - 2] },
     }
 }
 
@@ -39,11 +33,7 @@ fn lay(n: usize, ks: &mut [u64; 80], at: usize, words: &[u64; 32], from: usize)
     requires { (at + n ≤ 80) × (from + n ≤ 32) × (length ks.old ≡ 80) }
     ensures { ks.new ≡ take at ks.old ++ (words_from n from words.now ++ drop (at + n) ks.old) }
 {
-    let mut j = 0usize;
-    while j < n {
-        ks[at + j] = words[from + j];
-        j += 1;
-    }
+    ks[at..at + n].copy_from_slice(&words[from..from + n]);
 }
 
 // The schedule for a legal n.
@@ -53,10 +43,8 @@ fn lay_all(n: usize, words: [u64; 32], back: bool) -> [u64; 80]
 {
     let order = ORDER;
     let mut ks = [0u64; 80];
-    let mut i = 0usize;
-    while i < 20 {
+    for i in 0..20 {
         lay(n, &mut ks, i * n, &words, subkey(&order, back, i) * n);
-        i += 1;
     }
     ks
 }

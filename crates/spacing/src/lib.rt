@@ -12,10 +12,8 @@ fn space(s: &[u8], d: &mut [u8; 2056])
     ensures table { d.new ≡ spacedOut s.now }
     ensures bytes { (i : ℕ) → get_or s.now i 0 < 2 ^ 8 }
 {
-    let mut i = 0usize;
-    while i < 256 {
-        d[8 * i + 7] = s[i];
-        i += 1;
+    for (i, b) in s.iter().enumerate() {
+        d[8 * i + 7] = *b;
     }
 }
 
@@ -29,20 +27,13 @@ pub fn spaced(s: &[u8; 256]) -> [u8; 2056]
     d
 }
 
-// Byte k of a word, as a place in a table.
-fn place(w: u64, k: usize) -> usize
-    requires { k < 8 }
-    ensures { result ≡ byte w k }
-{
-    ((w >> (8 * k)) % 256) as usize
-}
-
 // The word that a spaced substitution has for byte k of a word.
 fn shifted(s: &[u8; 2056], w: u64, k: usize) -> u64
     requires { k < 8 }
     ensures { result ≡ join 8 (λ b. get_or s.now (8 * byte w k + 7 - k + b) 0) }
 {
-    buffers::load_word(s, 8 * place(w, k) + 7 - k)
+    let byte = usize::from(word_bytes::byte_at(w, k));
+    buffers::load_word(s, 8 * byte + 7 - k)
 }
 
 // All eight together: the word substituted.

@@ -1,16 +1,9 @@
 // Whether 256 bytes are a substitution, and the inverse of one.
 #![tactic(auto)]
 
-ghost use Rattle.std.specs.Prelude.{◌≡◌, ◌<◌};
+ghost use Rattle.std.specs.Prelude.{◌≡◌};
 ghost use Rattle.field.specs.Substitution.{different};
 ghost use Rattle.substitutions.specs.Inverse.{inverse_bytes};
-
-// A byte as a place.
-fn place(x: u8) -> usize
-    ensures { (result ≡ x) × (result < 256) }
-{
-    x as usize
-}
 
 // Whether s is 256 different bytes.
 pub fn is_different(s: &[u8]) -> bool
@@ -20,10 +13,8 @@ pub fn is_different(s: &[u8]) -> bool
         return false;
     }
     let mut seen = [false; 256];
-    let mut i = 256usize;
-    while 0 < i {
-        i -= 1;
-        let x = place(s[i]);
+    for i in (0..256).rev() {
+        let x = usize::from(s[i]);
         if seen[x] {
             return false;
         }
@@ -37,10 +28,8 @@ pub fn inverse(s: &[u8; 256]) -> [u8; 256]
     ensures { result ≡ inverse_bytes s.now }
 {
     let mut r = [0u8; 256];
-    let mut at = 256usize;
-    while 0 < at {
-        at -= 1;
-        let x = place(s[at]);
+    for at in (0..256).rev() {
+        let x = usize::from(s[at]);
         r[x] = at as u8;
     }
     r

@@ -14,7 +14,7 @@ pub fn substitute(b: u8) -> u8
     ensures { result ≡ sub published.table1 b }
 {
     let s = published::sbox();
-    s[b as usize]
+    s[usize::from(b)]
 }
 
 // The inverse of S at a byte.
@@ -22,5 +22,5 @@ pub fn substitute_inverse(b: u8) -> u8
     ensures { result ≡ sub_inv published.table1 b }
 {
     let inverse = published::sbox_inverse();
-    inverse[b as usize]
+    inverse[usize::from(b)]
 }

@@ -1,6 +1,5 @@
 // The two ends of the cipher: the initial transformation IT, from a block's bytes, and the final
-// transformation FT, to them. The text is one for all n. The functions that dispatch on n call it
-// with 1, 2 and 4, so that the compiler makes each size by itself.
+// transformation FT, to them. The text is one for all n, which is its const parameter N.
 #![tactic(auto)]
 
 ghost use Rattle.std.specs.Prelude.{◌≡◌, ◌+◌, ◌*◌, ◌<◌, ◌≤◌, ◌&&◌, [], ◌++◌, length, take, drop, ◌==◌};
@@ -24,13 +23,10 @@ fn sigma(n: usize, l: [u64; 4], r: [u64; 4]) -> [u64; 4]
     ensures { result ≡ four_words (tabulate n (spec.sigma (take n l, take n r))) }
 {
     let mut d = [0u64; 4];
-    let mut j = 0usize;
-    while j < n {
+    for j in 0..n {
         d[j] = l[j] ^ r[j];
-        j += 1;
     }
-    let first = d[0];
-    d[0] = arithmetic::rotate_left(first, 28);
+    d[0] = arithmetic::rotate_left(d[0], 28);
     d
 }
 
@@ -40,16 +36,14 @@ fn imix(n: usize, l: [u64; 4], r: [u64; 4]) -> Halves
     ensures { result ≡ held (IMix n (take n l, take n r)) }
 {
     let d = sigma(n, l, r);
-    let mut a = [0u64; 4];
-    let mut b = [0u64; 4];
-    let mut i = 0usize;
-    while i < n {
+    let mut high = [0u64; 4];
+    let mut low = [0u64; 4];
+    for i in 0..n {
         let m = d[(i + n - 1) % n];
-        a[i] = l[i] ^ m;
-        b[i] = r[i] ^ m;
-        i += 1;
+        high[i] = l[i] ^ m;
+        low[i] = r[i] ^ m;
     }
-    Halves { high: a, low: b }
+    Halves { high, low }
 }
 
 // ---- IT
@@ -68,13 +62,21 @@ fn key_in(
     ensures { result ≡ four_words (each n (λ w. rotl w turn) (each n (each_byte (sub s.now)) (zip n plus (words n (drop at src.now)) (words_from n k ks.now)))) }
 {
     let mut x = [0u64; 4];
-    let mut j = 0usize;
-    while j < n {
-        let w = std::num::wrapping_add_u64(buffers::load_word(src, at + 8 * j), ks[k + j]);
+    for j in 0..n {
+        let w = buffers::load_word(src, at + 8 * j).wrapping_add(ks[k + j]);
         x[j] = arithmetic::rotate_left(mixing::substitute_bytes(s, w), turn);
-        j += 1;
     }
     x
+}
+
+// IT of a block.
+fn enter_of<const N: usize>(s: &[u8; 256], ks: &[u64; 80], src: &[u8]) -> Halves
+    requires { Size N × (length src.now ≡ 16 * N) }
+    ensures { result ≡ held (IT (sub s.now) N (half N ks.now 1, half N ks.now 0) (load N src.now)) }
+{
+    let low = key_in(s, N, ks, 0, 62, src, 0);
+    let high = key_in(s, N, ks, N, 2, src, 8 * N);
+    imix(N, high, low)
 }
 
 // IT of a block, whatever legal n is.
@@ -82,18 +84,10 @@ fn enter_any(s: &[u8; 256], n: usize, ks: &[u64; 80], src: &[u8]) -> Halves
     requires { Size n × (length src.now ≡ 16 * n) }
     ensures { result ≡ held (IT (sub s.now) n (half n ks.now 1, half n ks.now 0) (load n src.now)) }
 {
-    if n == 1 {
-        let low = key_in(s, 1, ks, 0, 62, src, 0);
-        let high = key_in(s, 1, ks, 1, 2, src, 8);
-        imix(1, high, low)
-    } else if n == 2 {
-        let low = key_in(s, 2, ks, 0, 62, src, 0);
-        let high = key_in(s, 2, ks, 2, 2, src, 16);
-        imix(2, high, low)
-    } else {
-        let low = key_in(s, 4, ks, 0, 62, src, 0);
-        let high = key_in(s, 4, ks, 4, 2, src, 32);
-        imix(4, high, low)
+    match n {
+        1 => enter_of::<1>(s, ks, src),
+        2 => enter_of::<2>(s, ks, src),
+        _ => enter_of::<4>(s, ks, src),
     }
 }
 
@@ -101,15 +95,7 @@ fn enter_any(s: &[u8; 256], n: usize, ks: &[u64; 80], src: &[u8]) -> Halves
 fn fit(n: usize, k: usize) -> bool
     ensures { result ≡ (legal n && k == 16 * n) }
 {
-    if n == 1 {
-        k == 16
-    } else if n == 2 {
-        k == 32
-    } else if n == 4 {
-        k == 64
-    } else {
-        false
-    }
+    labyrinth::is_legal(n) && k == 16 * n
 }
 
 // IT of a block of bytes, by the substitution s, under the schedule's first two half-blocks; zeros for an illegal n or
@@ -129,13 +115,6 @@ pub fn enter(s: &[u8; 256], n: usize, ks: &[u64; 80], src: &[u8]) -> Halves
 
 // ---- FT
 
-// The difference of two words modulo 2 ^ 64.
-fn difference(a: u64, b: u64) -> u64
-    ensures { result ≡ minus a b }
-{
-    std::num::wrapping_sub_u64(a, b)
-}
-
 // Steps 2 to 4 of FT on one half, to the n words at a place of a block.
 fn key_out(
     u: &[u8; 256],
@@ -150,12 +129,20 @@ fn key_out(
     requires { (n ≤ 4) × (k + n ≤ 80) × (turn < 64) × (at + 8 * n ≤ length dst.old) }
     ensures { dst.new ≡ take at dst.old ++ (bytes n (zip n minus (each n (each_byte (sub u.now)) (each n (λ w. rotl w turn) (take n x.now))) (words_from n k ks.now)) ++ drop (at + 8 * n) dst.old) }
 {
-    let mut j = 0usize;
-    while j < n {
+    for j in 0..n {
         let w = mixing::substitute_bytes(u, arithmetic::rotate_left(x[j], turn));
-        buffers::store_word(dst, at + 8 * j, difference(w, ks[k + j]));
-        j += 1;
+        buffers::store_word(dst, at + 8 * j, w.wrapping_sub(ks[k + j]));
     }
+}
+
+// FT to a block.
+fn leave_of<const N: usize>(u: &[u8; 256], ks: &[u64; 80], h: Halves, dst: &mut [u8])
+    requires { Size N × (length dst.old ≡ 16 * N) }
+    ensures { dst.new ≡ store N (FT (sub u.now) N (half N ks.now 19, half N ks.now 18) (block_in N h)) }
+{
+    let x = imix(N, h.high, h.low);
+    key_out(u, N, ks, 18 * N, 2, &x.low, dst, 0);
+    key_out(u, N, ks, 19 * N, 62, &x.high, dst, 8 * N);
 }
 
 // FT to a block, whatever legal n is.
@@ -163,26 +150,10 @@ fn leave_any(u: &[u8; 256], n: usize, ks: &[u64; 80], h: Halves, dst: &mut [u8])
     requires { Size n × (length dst.old ≡ 16 * n) }
     ensures { dst.new ≡ store n (FT (sub u.now) n (half n ks.now 19, half n ks.now 18) (block_in n h)) }
 {
-    let a = h.high;
-    let b = h.low;
-    if n == 1 {
-        let x = imix(1, a, b);
-        let low = x.low;
-        let high = x.high;
-        key_out(u, 1, ks, 18, 2, &low, dst, 0);
-        key_out(u, 1, ks, 19, 62, &high, dst, 8);
-    } else if n == 2 {
-        let x = imix(2, a, b);
-        let low = x.low;
-        let high = x.high;
-        key_out(u, 2, ks, 36, 2, &low, dst, 0);
-        key_out(u, 2, ks, 38, 62, &high, dst, 16);
-    } else {
-        let x = imix(4, a, b);
-        let low = x.low;
-        let high = x.high;
-        key_out(u, 4, ks, 72, 2, &low, dst, 0);
-        key_out(u, 4, ks, 76, 62, &high, dst, 32);
+    match n {
+        1 => leave_of::<1>(u, ks, h, dst),
+        2 => leave_of::<2>(u, ks, h, dst),
+        _ => leave_of::<4>(u, ks, h, dst),
     }
 }
 

@@ -1,41 +1,41 @@
-// One block by the wider forms of what is lent, from words to words, for runs whose blocks hang on each other: at n = 1 and 2, by the first four
-// of eight tables, since a chain of look-ups is shorter so. At n = 4 a group is one block.
+// One block by the wider forms of what is lent, for runs whose blocks hang on each other: at N = 1 and 2, by the first four of eight tables, since a
+// chain of look-ups is shorter so. At n = 4 a group is one block.
 #![tactic(auto)]
 
 ghost use Rattle.std.specs.Prelude.{◌≡◌, ◌+◌, ◌%◌, ◌<◌, ◌≤◌, true, [], ◌∷◌, bit_xor, slice_index};
-ghost use Rattle.forms.specs.Lists.{xor_sum, words_from};
+ghost use Rattle.forms.specs.Lists.{tabulate, xor_sum, words_from};
 ghost use Rattle.forms.specs.Words.{byte, rotl};
 ghost use Rattle.field.specs.Published as published;
-ghost use Rattle.labyrinth.specs.Blocks.{plus, minus};
+ghost use Rattle.labyrinth.specs.Blocks.{plus, minus, zip};
 ghost use Rattle.labyrinth.specs.Cipher.{IMix, round as once, rounds as iterations};
+ghost use Rattle.labyrinth.specs.Cipher as spec;
 ghost use Rattle.labyrinth.specs.Keys.{half};
-ghost use Rattle.labyrinth.specs.Working.{share};
+ghost use Rattle.labyrinth.specs.Working.{Size, share};
 ghost use Rattle.labyrinth.specs.Groups.{in_memory, lookup_four, spaced_sub, enter_by, leave_by, line_by};
 
-// Byte k of a word, as a place in a table.
-fn place(w: u64, k: usize) -> usize
-    requires { k < 8 }
-    ensures { result ≡ byte w k }
-{
-    ((w >> (8 * k)) % 256) as usize
+// A block of N words a half.
+#[derive(Clone, Copy)]
+struct Block<const N: usize> {
+    high: [u64; N],
+    low: [u64; N],
 }
 
-// What byte k of a word adds, k below 4; and what byte k + 4 adds, still to be rotated by four bytes.
+// What byte k of a word adds.
 fn part(t: &[u64; 2048], w: u64, k: usize) -> u64
-    requires { k < 4 }
     ensures { result ≡ share true t.now k (byte w k) }
 {
-    t[256 * k + place(w, k)]
+    group_rounds::part(t, k, word_bytes::byte_at(w, k))
 }
 
+// What byte k + 4 adds, still to be rotated by four bytes.
 fn later(t: &[u64; 2048], w: u64, k: usize) -> u64
     requires { k < 4 }
     ensures { result ≡ share true t.now k (byte w (k + 4)) }
 {
-    t[256 * k + place(w, k + 4)]
+    group_rounds::part(t, k, word_bytes::byte_at(w, k + 4))
 }
 
-// v XOR what is looked up for a word whose bytes are those of two words in turn: at n = 1 the two are one word.
+// v XOR what is looked up for a word whose bytes are those of two words in turn: at N = 1 the two are one word.
 fn word(t: &[u64; 2048], a: u64, b: u64, v: u64) -> u64
     ensures { result ≡ bit_xor v (bit_xor (xor_sum 4 (λ k. share true t.now k (byte (slice_index (a ∷ b ∷ []) (k % 2)) k))) (rotl (xor_sum 4 (λ k. share true t.now k (byte (slice_index (a ∷ b ∷ []) (k % 2)) (k + 4)))) 32)) }
 {
@@ -48,71 +48,59 @@ fn word(t: &[u64; 2048], a: u64, b: u64, v: u64) -> u64
 
 // ---- the rounds
 
-// One iteration at n = 1 under the key word k.
-fn round_1(t: &[u64; 2048], k: u64, x: [u64; 2]) -> [u64; 2]
-    ensures { result ≡ in_memory 1 (once (lookup_four t.now) 1 (k ∷ [])) x }
+// The words of a half with those of a key added, which stand from a place on.
+fn keyed<const N: usize>(ks: &[u64; 80], at: usize, x: [u64; N]) -> [u64; N]
+    requires { at + N ≤ 80 }
+    ensures { result ≡ zip N plus x.entry (words_from N at ks.now) }
 {
-    let z = std::num::wrapping_add_u64(x[0], k);
-    [word(t, z, z, x[1]), x[0]]
-}
-
-// All sixteen.
-fn rounds_1(t: &[u64; 2048], ks: &[u64; 80], x: [u64; 2]) -> [u64; 2]
-    ensures { result ≡ in_memory 1 (iterations (lookup_four t.now) 1 (λ i. half 1 ks.now (i + 2)) 16) x }
-{
-    let mut y = x;
-    let mut at = 2usize;
-    while at < 18 {
-        let z = round_1(t, ks[at], y);
-        y = z;
-        at += 1;
+    let mut z = [0u64; N];
+    for j in 0..N {
+        z[j] = x[j].wrapping_add(ks[at + j]);
     }
-    y
+    z
 }
 
-// One iteration at n = 2 under the key words from a place on.
-fn round_2(t: &[u64; 2048], c: &[u64; 4], ks: &[u64; 80], at: usize, x: [u64; 4]) -> [u64; 4]
-    requires { (at + 2 ≤ 80) × (c.now ≡ published.constants) }
-    ensures { result ≡ in_memory 2 (once (lookup_four t.now) 2 (words_from 2 at ks.now)) x }
+// One iteration under the key words from a place on.
+fn round<const N: usize>(
+    t: &[u64; 2048],
+    c: &[u64; 4],
+    ks: &[u64; 80],
+    at: usize,
+    x: Block<N>,
+) -> Block<N>
+    requires { Size N × (N ≤ 2) × (at + N ≤ 80) × (c.now ≡ published.constants) }
+    ensures { (result.high, result.low) ≡ once (lookup_four t.now) N (words_from N at ks.now) (x.entry.high, x.entry.low) }
 {
-    let a = std::num::wrapping_add_u64(x[0], ks[at]);
-    let b = std::num::wrapping_add_u64(x[1], ks[at + 1]);
-    [word(t, a, b, x[2]), word(t, b, a, x[3] ^ c[1]), x[0], x[1]]
+    let z = keyed::<N>(ks, at, x.low);
+    let mut low = [0u64; N];
+    for j in 0..N {
+        low[j] = word(t, z[j], z[(j + 1) % N], x.high[j] ^ c[j]);
+    }
+    Block { high: x.low, low }
 }
 
 // All sixteen.
-fn rounds_2(t: &[u64; 2048], ks: &[u64; 80], x: [u64; 4]) -> [u64; 4]
-    ensures { result ≡ in_memory 2 (iterations (lookup_four t.now) 2 (λ i. half 2 ks.now (i + 2)) 16) x }
+fn rounds<const N: usize>(t: &[u64; 2048], ks: &[u64; 80], x: Block<N>) -> Block<N>
+    requires { Size N × (N ≤ 2) }
+    ensures { (result.high, result.low) ≡ iterations (lookup_four t.now) N (λ i. half N ks.now (i + 2)) 16 (x.entry.high, x.entry.low) }
 {
     let c = published::constants();
     let mut y = x;
-    let mut at = 4usize;
-    while at < 36 {
-        let z = round_2(t, &c, ks, at, y);
+    for i in 0..16 {
+        let z = round::<N>(t, &c, ks, (i + 2) * N, y);
         y = z;
-        at += 2;
     }
     y
 }
 
 // ---- the two ends
 
-// The difference of two words modulo 2 ^ 64.
-fn difference(a: u64, b: u64) -> u64
-    ensures { result ≡ minus a b }
-{
-    std::num::wrapping_sub_u64(a, b)
-}
-
 // A word on its way in: the key added, substituted, rotated left by turn.
 fn word_in(s: &[u8; 2056], x: u64, k: u64, turn: usize) -> u64
     requires { turn < 64 }
     ensures { result ≡ rotl (spaced_sub s.now (plus x k)) turn }
 {
-    arithmetic::rotate_left(
-        spacing::substitute(s, std::num::wrapping_add_u64(x, k)),
-        turn,
-    )
+    arithmetic::rotate_left(spacing::substitute(s, x.wrapping_add(k)), turn)
 }
 
 // And on its way out.
@@ -120,66 +108,98 @@ fn word_out(u: &[u8; 2056], x: u64, k: u64, turn: usize) -> u64
     requires { turn < 64 }
     ensures { result ≡ minus (spaced_sub u.now (rotl x turn)) k }
 {
-    difference(spacing::substitute(u, arithmetic::rotate_left(x, turn)), k)
+    spacing::substitute(u, arithmetic::rotate_left(x, turn)).wrapping_sub(k)
+}
+
+// Sigma.
+fn sigma<const N: usize>(x: Block<N>) -> [u64; N]
+    ensures { result ≡ tabulate N (spec.sigma (x.entry.high, x.entry.low)) }
+{
+    let mut d = [0u64; N];
+    for j in 0..N {
+        let w = x.high[j] ^ x.low[j];
+        let first = j == 0;
+        d[j] = if first {
+            arithmetic::rotate_left(w, 28)
+        } else {
+            w
+        };
+    }
+    d
 }
 
 // IMix.
-fn imix_1(x: [u64; 2]) -> [u64; 2]
-    ensures { result ≡ in_memory 1 (IMix 1) x }
+fn imix<const N: usize>(x: Block<N>) -> Block<N>
+    requires { Size N }
+    ensures { (result.high, result.low) ≡ IMix N (x.entry.high, x.entry.low) }
 {
-    let d = arithmetic::rotate_left(x[0] ^ x[1], 28);
-    [x[0] ^ d, x[1] ^ d]
+    let d = sigma::<N>(x);
+    let mut high = [0u64; N];
+    let mut low = [0u64; N];
+    for j in 0..N {
+        let m = d[(j + N - 1) % N];
+        high[j] = x.high[j] ^ m;
+        low[j] = x.low[j] ^ m;
+    }
+    Block { high, low }
 }
 
-fn imix_2(x: [u64; 4]) -> [u64; 4]
-    ensures { result ≡ in_memory 2 (IMix 2) x }
+// IT.
+fn enter<const N: usize>(s: &[u8; 2056], ks: &[u64; 80], x: Block<N>) -> Block<N>
+    requires { Size N }
+    ensures { (result.high, result.low) ≡ enter_by (spaced_sub s.now) N (half N ks.now 1, half N ks.now 0) (x.entry.high, x.entry.low) }
 {
-    let d = arithmetic::rotate_left(x[0] ^ x[2], 28);
-    let e = x[1] ^ x[3];
-    [x[0] ^ e, x[1] ^ d, x[2] ^ e, x[3] ^ d]
+    let mut high = [0u64; N];
+    let mut low = [0u64; N];
+    for j in 0..N {
+        low[j] = word_in(s, x.low[j], ks[j], 62);
+        high[j] = word_in(s, x.high[j], ks[N + j], 2);
+    }
+    imix::<N>(Block { high, low })
 }
 
-// IT and FT at n = 1.
-fn enter_1(s: &[u8; 2056], ks: &[u64; 80], x: [u64; 2]) -> [u64; 2]
-    ensures { result ≡ in_memory 1 (enter_by (spaced_sub s.now) 1 (half 1 ks.now 1, half 1 ks.now 0)) x }
+// FT.
+fn leave<const N: usize>(u: &[u8; 2056], ks: &[u64; 80], x: Block<N>) -> Block<N>
+    requires { Size N }
+    ensures { (result.high, result.low) ≡ leave_by (spaced_sub u.now) N (half N ks.now 19, half N ks.now 18) (x.entry.high, x.entry.low) }
 {
-    imix_1([word_in(s, x[0], ks[0], 62), word_in(s, x[1], ks[1], 2)])
-}
-
-fn leave_1(u: &[u8; 2056], ks: &[u64; 80], x: [u64; 2]) -> [u64; 2]
-    ensures { result ≡ in_memory 1 (leave_by (spaced_sub u.now) 1 (half 1 ks.now 19, half 1 ks.now 18)) x }
-{
-    let y = imix_1(x);
-    [word_out(u, y[0], ks[18], 2), word_out(u, y[1], ks[19], 62)]
-}
-
-// And at n = 2.
-fn enter_2(s: &[u8; 2056], ks: &[u64; 80], x: [u64; 4]) -> [u64; 4]
-    ensures { result ≡ in_memory 2 (enter_by (spaced_sub s.now) 2 (half 2 ks.now 1, half 2 ks.now 0)) x }
-{
-    imix_2([
-        word_in(s, x[0], ks[0], 62),
-        word_in(s, x[1], ks[1], 62),
-        word_in(s, x[2], ks[2], 2),
-        word_in(s, x[3], ks[3], 2),
-    ])
-}
-
-fn leave_2(u: &[u8; 2056], ks: &[u64; 80], x: [u64; 4]) -> [u64; 4]
-    ensures { result ≡ in_memory 2 (leave_by (spaced_sub u.now) 2 (half 2 ks.now 19, half 2 ks.now 18)) x }
-{
-    let y = imix_2(x);
-    [
-        word_out(u, y[0], ks[36], 2),
-        word_out(u, y[1], ks[37], 2),
-        word_out(u, y[2], ks[38], 62),
-        word_out(u, y[3], ks[39], 62),
-    ]
+    let y = imix::<N>(x);
+    let mut high = [0u64; N];
+    let mut low = [0u64; N];
+    for j in 0..N {
+        low[j] = word_out(u, y.low[j], ks[18 * N + j], 2);
+        high[j] = word_out(u, y.high[j], ks[19 * N + j], 62);
+    }
+    Block { high, low }
 }
 
 // ---- the block
 
-// A block of n = 1.
+// The halves change places.
+fn exchanged<const N: usize>(x: Block<N>) -> Block<N>
+    ensures { (result.high, result.low) ≡ spec.exchange (x.entry.high, x.entry.low) }
+{
+    let high = x.low;
+    let low = x.high;
+    Block { high, low }
+}
+
+// A block of N words a half.
+fn mapped<const N: usize>(
+    t: &[u64; 2048],
+    s: &[u8; 2056],
+    u: &[u8; 2056],
+    ks: &[u64; 80],
+    x: Block<N>,
+) -> Block<N>
+    requires { Size N × (N ≤ 2) }
+    ensures { (result.high, result.low) ≡ line_by (spaced_sub s.now) (spaced_sub u.now) (lookup_four t.now) N ks.now (x.entry.high, x.entry.low) }
+{
+    let y = rounds::<N>(t, ks, enter::<N>(s, ks, x));
+    leave::<N>(u, ks, exchanged::<N>(y))
+}
+
+// One of n = 1, its words as in memory, the low half and then the high one: Rattle has no array of 2N words for a const parameter N.
 pub fn block_1(
     t: &[u64; 2048],
     s: &[u8; 2056],
@@ -189,11 +209,20 @@ pub fn block_1(
 ) -> [u64; 2]
     ensures { result ≡ in_memory 1 (line_by (spaced_sub s.now) (spaced_sub u.now) (lookup_four t.now) 1 ks.now) x }
 {
-    let y = rounds_1(t, ks, enter_1(s, ks, x));
-    leave_1(u, ks, [y[1], y[0]])
+    let y = mapped::<1>(
+        t,
+        s,
+        u,
+        ks,
+        Block {
+            high: [x[1]],
+            low: [x[0]],
+        },
+    );
+    [y.low[0], y.high[0]]
 }
 
-// A block of n = 2.
+// And one of n = 2.
 pub fn block_2(
     t: &[u64; 2048],
     s: &[u8; 2056],
@@ -203,6 +232,15 @@ pub fn block_2(
 ) -> [u64; 4]
     ensures { result ≡ in_memory 2 (line_by (spaced_sub s.now) (spaced_sub u.now) (lookup_four t.now) 2 ks.now) x }
 {
-    let y = rounds_2(t, ks, enter_2(s, ks, x));
-    leave_2(u, ks, [y[2], y[3], y[0], y[1]])
+    let y = mapped::<2>(
+        t,
+        s,
+        u,
+        ks,
+        Block {
+            high: [x[2], x[3]],
+            low: [x[0], x[1]],
+        },
+    );
+    [y.low[0], y.low[1], y.high[0], y.high[1]]
 }

@@ -19,7 +19,10 @@ use Rattle.sets.specs.Sets.{nowhere}
 use Rattle.sets.specs.declared.Store.{Store}
 use Rattle.records.specs.Records.{set_bytes, store_bytes}
 use Rattle.forms.proofs.Whole.{bytes_two, written}
-use Rattle.store_records.proofs.Parts.{to_end}
+
+-- what stands from a place on, lent to the end
+to_end : (xs : List ℕ) (at : ℕ) → take (length xs - at) (drop at xs) ≡ drop at xs
+to_end xs at = take_all (length xs - at) (drop at xs) (omega (arith, length-drop at xs))
 
 -- a string copied to the front of what is left from a place on
 pub put_there : (d s : List ℕ) (at : ℕ) {ys : List ℕ} → at + length s ≤ length d → ys ≡ take (length (take (length d - at) (drop at d))) s ++ drop (length s) (take (length d - at) (drop at d))

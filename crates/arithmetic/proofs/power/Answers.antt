@@ -23,9 +23,9 @@ loop-m-init c = (omega arith, one-mul _ (power_lt _ _))
 pub loop-m-preserved : goal.loop-m-preserved
 loop-m-preserved c =
     let l = c.loop-m in
-    let x = c.times-s.ensures.value in
+    let x = c.times-x.ensures.value in
     elim c.if-odd.branch [
-      | then-odd w ↦ odd l.value l.x l.m l.invariant w.if-odd.true (w.value-is ∙ w.times-p.ensures.value) x
+      | then-odd w ↦ odd l.value l.x l.m l.invariant w.if-odd.true (w.value-is ∙ w.times-value.ensures.value) x
       | else-odd w ↦ even l.value l.x l.m l.invariant w.if-odd.false w.value-is x
     ]
 

@@ -1,32 +1,24 @@
--- After k turns n is the count of the bytes below k that are not zero.
+-- The bytes that pass the test, counted.
 -- Assumes nothing.
-use mathlib.Core.Path.{◌≡◌, ap, ◌∙◌}
-use Prim.Native.Nat.{ℕ, ◌-◌}
-use native.Mathlib.Omega.{arith}
-use borrow.Author.Rules.{rules}
-use Rattle.forms.specs.Words.{byte}
-use Rattle.judge.specs.Judge.{nonzero, active_bytes}
-use Rattle.judge.proofs.Counts.{nonzero_most, count_skip, count_take}
+use Rattle.std.proofs.Common.{rules, tests}
+use Rattle.std.proofs.lemmas.Iterator.{YieldsList-from_slice}
+use Rattle.std.proofs.lemmas.Iterator.Consumers.{YieldsList-from_filter, count_from_yields_List}
+use Rattle.std.proofs.lemmas.List.Sums.{length-filter}
+use Rattle.std.specs.List.{count_by}
+use mathlib.Core.Path.{ap, ◌∙◌}
+use mathlib.Core.Bool.{Bool, not}
+use Prim.Native.Nat.{ℕ}
+use lib.Dec.{eqb}
+use Rattle.word_bytes.proofs.Words.{le_bytes}
+use Rattle.judge.specs.Judge.{active_bytes}
+use Rattle.counts.proofs.Counting.{counted}
 use Rattle.counts.proofs.active_bytes.Goals as goal
-use Rattle.counts.proofs.active_bytes.Goals.{then-active, else-active}
-
-pub loop-k-init : goal.loop-k-init
-unfolding nonzero
-loop-k-init c = search rules
-
-pub overflow_add-n : goal.overflow_add-n
-overflow_add-n c = let l = c.loop-k in omega (arith, nonzero_most l.k (byte c.args.w))
-
-pub loop-k-preserved : goal.loop-k-preserved
-loop-k-preserved c =
-    let l = c.loop-k in (
-      omega arith,
-      elim c.if-active.branch [
-        | then-active w ↦ w.n-is ∙ count_take l.k _ l.invariant.1 c.byte_at-active.ensures w.if-active.true
-        | else-active w ↦ w.n-is ∙ count_skip l.k _ l.invariant.1 c.byte_at-active.ensures w.if-active.false
-      ],
-    )
 
 pub returns : goal.returns
 unfolding active_bytes
-returns c = let l = c.loop-k in let e : l.k ≡ 8 = omega arith in l.invariant.1 ∙ ap (λ (k : ℕ). nonzero k (byte c.args.w)) e
+returns c =
+    let bytes = c.to_le_bytes.result in
+    let test : ℕ → Bool = λ b. not (eqb b 0) in
+    count_from_yields_List c.filter.result _ c.count.ensures.ran
+    (YieldsList-from_filter _ test (YieldsList-from_slice bytes (cc)) c.filter.ensures.closure (λ x b q k. search (rules, tests)))
+    ∙ length-filter test bytes ∙ ap (count_by test) (c.to_le_bytes.ensures ∙ le_bytes _) ∙ counted _

@@ -1,24 +1,29 @@
--- After i turns the first i words stand behind the half-blocks before.
+-- The words that are copied stand behind the half-blocks before, and zeros behind them.
 -- Assumes nothing.
-use Rattle.std.proofs.Common.{◌≡◌, ℕ, ◌+◌, ◌-◌, ◌++◌, get_or, refl, ap, ◌∙◌, arith}
+use Rattle.std.proofs.Common.{◌≡◌, ℕ, ◌+◌, ◌-◌, ◌*◌, List, ◌++◌, length, take, drop, get_or, replicate, sym, ap, ap₂, ◌∙◌, arith, take_at, drop_at}
+use Rattle.std.proofs.lemmas.List.{drop-replicate, length-append}
+use mathlib.Core.List.{append_assoc}
 use Rattle.forms.specs.Lists.{tabulate}
+use Rattle.forms.proofs.Lists.{take_tabulate, length_tabulate}
 use Rattle.labyrinth.specs.Refusals.{padded}
-use Rattle.labyrinth.proofs.Expansion.{put_none, put_more}
 use Rattle.expansion.proofs.put.Goals as goal
 
-pub loop-i-init : goal.loop-i-init
-loop-i-init c = (omega arith, λ ks e p. p ∙ put_none ks _)
-
-pub bounds-y-i : goal.bounds-y-i
-bounds-y-i c = omega (arith, c.requires.0.top)
-
-pub place-requires : goal.place-requires
-place-requires c = let p = c.requires in (p.0, p.1, omega arith)
-
-pub loop-i-preserved : goal.loop-i-preserved
-loop-i-preserved c =
-    let s = c.loop-i in
-    (omega arith, λ ks e p. put_more ks _ _ _ s.i e (s.invariant.1 ks e p) c.place.ensures.is c.place.ensures.small refl)
+placed : (ks x : List ℕ) (at n : ℕ) → length ks ≡ at → length x ≡ n → take at (padded ks) ++ (x ++ drop n (drop at (padded ks))) ≡ padded (ks ++ x)
+unfolding padded
+placed ks x at n e h =
+    let zeros : ℕ → List ℕ = λ m. replicate m 0 in
+    let left : 32 - length ks - n ≡ 32 - length (ks ++ x) = omega (arith, length-append ks x) in
+    ap₂ (λ (p q : List ℕ). p ++ (x ++ drop n q)) (take_at ks (zeros (32 - length ks)) at e) (drop_at ks (zeros (32 - length ks)) at e)
+    ∙ ap (λ (z : List ℕ). ks ++ (x ++ z)) (drop-replicate n (32 - length ks) 0 ∙ ap zeros left)
+    ∙ sym (append_assoc ks x (zeros (32 - length (ks ++ x))))
 
 pub returns : goal.returns
-returns c = let s = c.loop-i in let e : s.i ≡ c.args.n = omega arith in λ ks h p. s.invariant.1 ks h p ∙ ap (λ (k : ℕ). padded (ks ++ tabulate k (λ i. get_or c.args.y.now i 0))) e
+returns c ks len e =
+    let a = c.args in
+    let n : ℕ = a.n in
+    let at : ℕ = a.j * n in
+    let x : List ℕ = tabulate n (λ i. get_or a.y.now i 0) in
+    let m : at + n - at ≡ n = omega arith in
+    ap₂ (λ (w y : List ℕ). take at w ++ (y ++ drop (at + n - at) (drop at w))) e (c.copy_from_slice.ensures.after ∙ take_tabulate n a.y.now (omega arith))
+    ∙ ap (λ (k : ℕ). take at (padded ks) ++ (x ++ drop k (drop at (padded ks)))) m
+    ∙ placed ks x at n len (length_tabulate n _)

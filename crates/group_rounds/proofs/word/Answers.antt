@@ -20,11 +20,11 @@ pub returns : goal.returns
 returns c =
     let a = c.args in
     eight a.v (λ k. share true a.t.now k (byte (get_or (a.a ∷ a.b ∷ a.c ∷ a.d ∷ []) (k % 4) 0) k))
-    c.part.ensures
-    c.part-2.ensures
-    c.part-3.ensures
-    c.part-4.ensures
-    c.part-5.ensures
-    c.part-6.ensures
-    c.part-7.ensures
-    c.part-8.ensures
+    c.part_of.ensures
+    c.part_of-2.ensures
+    c.part_of-3.ensures
+    c.part_of-4.ensures
+    c.part_of-5.ensures
+    c.part_of-6.ensures
+    c.part_of-7.ensures
+    c.part_of-8.ensures

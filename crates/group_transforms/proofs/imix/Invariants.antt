@@ -1,12 +1,8 @@
 -- After i turns the words below i of both halves are there.
 -- Assumes nothing.
-use Rattle.std.proofs.Common.{◌-◌, ◌≤◌}
 use Rattle.forms.proofs.Lists.{Replaced}
 use Rattle.group_transforms.proofs.Ends.{mixed}
 use Rattle.group_transforms.proofs.imix.Given as goal
 
 abbrev pub invariant-loop-i : goal.invariant-loop-i
-invariant-loop-i l = (l.i ≤ 4) × Replaced (mixed l.n l.d l.l) l.initial.a l.i l.a × Replaced (mixed l.n l.d l.r) l.initial.b l.i l.b
-
-abbrev pub decreases-loop-i : goal.decreases-loop-i
-decreases-loop-i l = 4 - l.i
+invariant-loop-i g l = Replaced (mixed g.row.N l.d l.h.high) l.initial.high l.i l.high × Replaced (mixed g.row.N l.d l.h.low) l.initial.low l.i l.low

@@ -1,14 +1,10 @@
 -- The words below i have been read.
 -- Assumes nothing.
 use mathlib.Core.Path.{◌≡◌}
-use Prim.Native.Nat.{◌-◌, ◌≤◌}
 use lib.ListN.{length}
 use Rattle.forms.proofs.Lists.{Replaced}
 use Rattle.groups.proofs.Words.{word_in}
 use Rattle.groups.proofs.group_words.Given as goal
 
 abbrev pub invariant-loop-i : goal.invariant-loop-i
-invariant-loop-i l = (l.i ≤ 8) × (length l.initial.x ≡ 8) × Replaced (word_in l.s) l.initial.x l.i l.x
-
-abbrev pub decreases-loop-i : goal.decreases-loop-i
-decreases-loop-i l = 8 - l.i
+invariant-loop-i l = (length l.initial.x ≡ 8) × Replaced (word_in l.s) l.initial.x l.i l.x

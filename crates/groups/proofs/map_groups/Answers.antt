@@ -1,7 +1,6 @@
 -- Each arm maps by what was made of the lent ones.
 -- Assumes nothing.
 use mathlib.Core.Path.{◌≡◌, sym, ◌∙◌}
-use mathlib.Core.Bool.{true}
 use Prim.Native.Nat.{◌%◌}
 use lib.ListN.{length}
 use Rattle.forms.proofs.Booleans.{when_spared}

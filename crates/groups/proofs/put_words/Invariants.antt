@@ -2,14 +2,11 @@
 -- Assumes nothing.
 use mathlib.Core.Path.{◌≡◌}
 use mathlib.Core.List.{◌++◌}
-use Prim.Native.Nat.{◌+◌, ◌-◌, ◌*◌, ◌≤◌}
+use Prim.Native.Nat.{◌*◌}
 use lib.ListN.{length, take, drop}
 use Rattle.forms.specs.Words.{bytes}
 use Rattle.forms.specs.Strings.{xor_bytes}
 use Rattle.groups.proofs.put_words.Given as goal
 
 abbrev pub invariant-loop-i : goal.invariant-loop-i
-invariant-loop-i l = (l.i ≤ 8) × (length l.dst ≡ length l.initial.dst) × (l.dst ≡ take (8 * l.i) (xor_bytes (bytes 8 l.x) l.mask) ++ drop (8 * l.i) l.initial.dst)
-
-abbrev pub decreases-loop-i : goal.decreases-loop-i
-decreases-loop-i l = 8 - l.i
+invariant-loop-i l = (length l.dst ≡ length l.initial.dst) × (l.dst ≡ take (8 * l.i) (xor_bytes (bytes 8 l.x) l.mask) ++ drop (8 * l.i) l.initial.dst)

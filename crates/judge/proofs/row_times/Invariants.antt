@@ -2,7 +2,7 @@
 -- Assumes nothing.
 use mathlib.Core.Path.{◌≡◌}
 use mathlib.Core.List.{[]}
-use Prim.Native.Nat.{ℕ, ◌≤◌, ◌-◌}
+use Prim.Native.Nat.{ℕ}
 use lib.ListN.{get_or}
 use Rattle.forms.specs.Lists.{xor_sum}
 use Rattle.field.specs.Field.{mul}
@@ -10,7 +10,4 @@ use Rattle.field.specs.Mixing.{dot}
 use Rattle.judge.proofs.row_times.Given as goal
 
 abbrev pub invariant-loop-k : goal.invariant-loop-k
-invariant-loop-k l = (l.k ≤ 8) × ((w : ℕ) → dot l.r w ≡ xor_sum l.k (λ i. mul (dot (get_or l.a i []) w) (get_or l.x i 0)))
-
-abbrev pub decreases-loop-k : goal.decreases-loop-k
-decreases-loop-k l = 8 - l.k
+invariant-loop-k l = (w : ℕ) → dot l.r w ≡ xor_sum l.k (λ i. mul (dot (get_or l.a i []) w) (get_or l.x i 0))

@@ -1,18 +1,17 @@
 -- n, the set and the words.
 -- Assumes nothing.
-use mathlib.Core.Path.{◌≡◌}
-use mathlib.Core.List.{List}
-use Prim.Native.Nat.{ℕ}
-use Rattle.labyrinth.specs.declared.WorkingKey.{WorkingKey}
+use Prim.Native.Nat.{◌+◌, ◌*◌}
+use borrow.Author.Rules.{rules}
+use Rattle.buffers.specs.Words.{word_at}
+use Rattle.buffers.proofs.Arrays.{made}
 use Rattle.records.specs.Records.{key_in}
 use Rattle.key_records.proofs.key_of.Goals as goal
 
-made : ℕ → ℕ → List ℕ → WorkingKey
-made n set ws = record { n = n; set = set; words = ws }
-
-same : {n n' s s' : ℕ} {ws ws' : List ℕ} → n ≡ n' → s ≡ s' → ws ≡ ws' → made n s ws ≡ made n' s' ws'
-same p q r = rw (p, q, r)
-
 pub returns : goal.returns
-unfolding key_in made
-returns c = same c.number_at-n.ensures c.number_at-set.ensures c.words_of-words.ensures
+unfolding key_in
+returns c =
+    rw (
+      c.load_word.ensures,
+      c.load_word-2.ensures,
+      made _ _ (λ j. word_at c.args.b.now (16 + 8 * j)) (λ j y q k. search rules) c.from_fn.result 0 32 c.from_fn.ensures.items,
+    )

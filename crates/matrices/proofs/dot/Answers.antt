@@ -1,7 +1,6 @@
 -- After j turns the sum is that over the bytes below j.
 -- Assumes nothing.
 use mathlib.Core.Path.{◌≡◌, refl, ap₂, ◌∙◌}
-use Prim.Native.Nat.{◌-◌}
 use native.Mathlib.Omega.{arith}
 use Rattle.forms.specs.Lists.{xor_sum}
 use Rattle.forms.proofs.Sums.{xor_sum_next, xor_sum_end}
@@ -11,15 +10,11 @@ use Rattle.matrices.proofs.dot.Goals as goal
 
 pub loop-j-init : goal.loop-j-init
 unfolding xor_sum
-loop-j-init c = (omega arith, refl)
+loop-j-init c = refl
 
 pub loop-j-preserved : goal.loop-j-preserved
-loop-j-preserved c =
-    let l = c.loop-j in (
-      omega arith,
-      xor_sum_next l.j _ l.invariant.1 (c.times-p.ensures.value ∙ ap₂ mul c.byte_at.ensures refl),
-    )
+loop-j-preserved c = xor_sum_next c.loop-j.j _ c.loop-j.invariant (c.times-sum.ensures.value ∙ ap₂ mul c.byte_at.ensures refl)
 
 pub returns : goal.returns
 unfolding dot
-returns c = let l = c.loop-j in let e : l.j ≡ 8 = omega arith in xor_sum_end _ e l.invariant.1
+returns c = let e : c.loop-j.j ≡ 8 = omega arith in xor_sum_end _ e c.loop-j.invariant

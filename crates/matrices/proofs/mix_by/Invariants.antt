@@ -1,14 +1,10 @@
 -- After i turns the word has the bytes below i.
 -- Assumes nothing.
 use mathlib.Core.List.{[]}
-use Prim.Native.Nat.{◌≤◌, ◌-◌}
 use lib.ListN.{get_or}
 use Rattle.forms.proofs.Words.{Joined}
 use Rattle.field.specs.Mixing.{dot}
 use Rattle.matrices.proofs.mix_by.Given as goal
 
 abbrev pub invariant-loop-i : goal.invariant-loop-i
-invariant-loop-i l = (l.i ≤ 8) × Joined l.i (λ k. dot (get_or l.m k []) l.w) l.r
-
-abbrev pub decreases-loop-i : goal.decreases-loop-i
-decreases-loop-i l = 8 - l.i
+invariant-loop-i l = Joined l.i (λ k. dot (get_or l.m k []) l.w) l.r

@@ -1,6 +1,6 @@
 -- After b turns the word has the bytes below b, each from its place.
 -- Assumes nothing.
-use Rattle.std.proofs.Common.{◌+◌, ◌-◌, ◌%◌, ◌≤◌, get_or, take}
+use Rattle.std.proofs.Common.{◌+◌, ◌%◌, get_or, take}
 use Rattle.forms.specs.Words.{byte}
 use Rattle.forms.specs.Lists.{words_from}
 use Rattle.forms.proofs.Words.{Joined}
@@ -8,7 +8,4 @@ use Rattle.labyrinth.specs.Blocks.{plus, zip}
 use Rattle.matrix_rounds.proofs.perm_word.Given as goal
 
 abbrev pub invariant-loop-b : goal.invariant-loop-b
-invariant-loop-b l = (l.b ≤ 8) × Joined l.b (λ k. byte (get_or (zip l.n plus (take l.n l.x) (words_from l.n l.at l.ks)) ((l.j + k) % l.n) 0) k) l.r
-
-abbrev pub decreases-loop-b : goal.decreases-loop-b
-decreases-loop-b l = 8 - l.b
+invariant-loop-b l = Joined l.b (λ k. byte (get_or (zip l.n plus (take l.n l.x) (words_from l.n l.at l.ks)) ((l.j + k) % l.n) 0) k) l.r

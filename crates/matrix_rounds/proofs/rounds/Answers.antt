@@ -1,62 +1,49 @@
--- At a place (i + 2) n of the schedule i iterations are done.
+-- At half-block i of the schedule i - 2 iterations are done.
 -- Assumes nothing.
-use Rattle.std.proofs.Common.{◌≡◌, ◌+◌, ◌-◌, ◌≤◌, length, sym, refl, arith, rules}
+use Rattle.std.proofs.Common.{◌≡◌, ℕ, ◌+◌, ◌*◌, ◌<◌, sym, refl, ap, ◌∙◌, le_of_eq, arith}
+use Rattle.std.proofs.Math.Nat.{mul-lt-mul_of_pos_right}
+use Rattle.forms.proofs.Booleans.{when_spared}
 use Rattle.labyrinth.specs.Working.{Size}
-use Rattle.labyrinth.proofs.Sizes.{size_one, size_two, size_four}
-use Rattle.labyrinth.proofs.Rounds.{ran_none, ran_inside, ran_more, ran_all, ran_legal, when_illegal}
+use Rattle.labyrinth.proofs.Refusals.{legal_size_of}
+use Rattle.labyrinth.proofs.Rounds.{ran_none, ran_inside, ran_more, ran_all, ran_legal}
 use Rattle.matrix_rounds.proofs.rounds.Goals as goal
-use Rattle.matrix_rounds.proofs.rounds.Goals.{then-n-eq1-via-then-n-eq1, then-n-eq1-via-else-n-eq1+then-n-eq2, then-n-eq1-via-else-n-eq1+else-n-eq2+then-n-eq4}
-use Rattle.matrix_rounds.proofs.rounds.Goals.{Joined-then-n-eq1}
+use Rattle.matrix_rounds.proofs.rounds.Goals.{Else-not-is_legal}
 
--- what holds where the three tests meet
-module _ (c : Joined-then-n-eq1) where
-  size : Size c.args.n
-  size =
-      elim c.then-n-eq1.branch [
-        | then-n-eq1-via-then-n-eq1 w ↦ rw w.if-n-eq1.true size_one
-        | then-n-eq1-via-else-n-eq1+then-n-eq2 w ↦ rw w.if-n-eq2.true size_two
-        | then-n-eq1-via-else-n-eq1+else-n-eq2+then-n-eq4 w ↦ rw w.if-n-eq4.true size_four
-      ]
+-- n is one of the three
+size : (c : Else-not-is_legal) → Size c.args.n
+size c = legal_size_of c.args.n (sym c.is_legal.ensures ∙ c.if-not-is_legal.false)
 
-  high : length c.args.h.high ≡ 4
-  high = search rules
+pub returns-then-not-is_legal : goal.returns-then-not-is_legal
+returns-then-not-is_legal c = when_spared _ _ c.is_legal.ensures c.if-not-is_legal.true
 
-  low : length c.args.h.low ≡ 4
-  low = search rules
+pub loop-i-init : goal.loop-i-init
+loop-i-init c = ran_none _ _ (size (goal.at.loop-i-init c).Else-not-is_legal) _ _ (omega arith) (omega arith)
 
-pub overflow_mul-at : goal.overflow_mul-at
-overflow_mul-at c = let z = size c in search rules
-
-pub loop-at-init : goal.loop-at-init
-loop-at-init c = ran_none _ _ (size c) _ _ (high c) (low c)
-
-pub overflow_mul-n : goal.overflow_mul-n
-overflow_mul-n c = let z = size (goal.at.overflow_mul-n c).Joined-then-n-eq1 in search rules
+pub overflow_mul-i : goal.overflow_mul-i
+overflow_mul-i c =
+    let z = size (goal.at.overflow_mul-i c).Else-not-is_legal in
+    let l : c.loop-i.i < 18 = omega arith in
+    omega (arith, mul-lt-mul_of_pos_right l z.pos)
 
 pub round-requires : goal.round-requires
 round-requires c =
-    let p = c.loop-at.invariant in
-    (size (goal.at.round-requires c).Joined-then-n-eq1, ran_inside _ _ (size (goal.at.round-requires c).Joined-then-n-eq1) _ _ (high (goal.at.round-requires c).Joined-then-n-eq1) (low (goal.at.round-requires c).Joined-then-n-eq1) (omega arith) p, p.high, p.low)
+    let z = size (goal.at.round-requires c).Else-not-is_legal in
+    let l : c.loop-i.i < 18 = omega arith in
+    let p = c.loop-i.invariant in
+    (z, ran_inside _ _ z _ _ (omega arith) (omega arith) (mul-lt-mul_of_pos_right l z.pos) p, p.high, p.low)
 
-pub overflow_add-at : goal.overflow_add-at
-overflow_add-at c =
-    let h : c.loop-at.at + c.args.n ≤ 80 =
-    ran_inside _ _ (size (goal.at.overflow_add-at c).Joined-then-n-eq1) _ _ (high (goal.at.overflow_add-at c).Joined-then-n-eq1) (low (goal.at.overflow_add-at c).Joined-then-n-eq1) (omega arith) c.loop-at.invariant in
-    omega arith
-
-pub loop-at-smaller : goal.loop-at-smaller
-loop-at-smaller c = let z = size (goal.at.loop-at-smaller c).Joined-then-n-eq1 in search rules
-
-pub loop-at-preserved : goal.loop-at-preserved
-loop-at-preserved c =
-    ran_more _ _ (size (goal.at.loop-at-preserved c).Joined-then-n-eq1) _ _ (high (goal.at.loop-at-preserved c).Joined-then-n-eq1) (low (goal.at.loop-at-preserved c).Joined-then-n-eq1) (omega arith) c.round.ensures c.loop-at.invariant
-
-pub returns-after-loop-at : goal.returns-after-loop-at
-returns-after-loop-at c =
-    let a = c.args in
-    ran_legal _ a.n a.n refl (size (goal.at.returns-after-loop-at c).Joined-then-n-eq1) _ a.h (ran_all _ _ (size (goal.at.returns-after-loop-at c).Joined-then-n-eq1) _ _ (high (goal.at.returns-after-loop-at c).Joined-then-n-eq1) (low (goal.at.returns-after-loop-at c).Joined-then-n-eq1) (omega arith) c.loop-at.invariant)
-
-pub returns-else-n-eq4 : goal.returns-else-n-eq4
-returns-else-n-eq4 c =
+pub loop-i-preserved : goal.loop-i-preserved
+loop-i-preserved c =
+    let z = size (goal.at.loop-i-preserved c).Else-not-is_legal in
+    let i = c.loop-i.i in
     let n = c.args.n in
-    sym (when_illegal n c.if-n-eq1.false c.if-n-eq2.false c.if-n-eq4.false _ _)
+    let l : i < 18 = omega arith in
+    let next : (i + 1) * n ≡ i * n + n = omega arith in
+    rw next (ran_more _ _ z _ _ (omega arith) (omega arith) (mul-lt-mul_of_pos_right l z.pos) c.round.ensures c.loop-i.invariant)
+
+pub returns : goal.returns
+returns c =
+    let z = size (goal.at.returns c).Else-not-is_legal in
+    let a = c.args in
+    let end : c.loop-i.i ≡ 18 = omega arith in
+    ran_legal _ a.n a.n refl z _ a.h (ran_all _ _ z _ _ (omega arith) (omega arith) (le_of_eq (ap (λ (i : ℕ). i * a.n) (sym end))) c.loop-i.invariant)

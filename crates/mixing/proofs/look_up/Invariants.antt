@@ -1,14 +1,11 @@
 -- After j turns the word is the XOR over the bytes below j.
 -- Assumes nothing.
 use mathlib.Core.Path.{◌≡◌}
-use Prim.Native.Nat.{◌≤◌, ◌-◌, ◌*◌}
+use Prim.Native.Nat.{◌*◌}
 use lib.ListN.{get_or}
 use Rattle.forms.specs.Lists.{xor_sum}
 use Rattle.forms.specs.Words.{byte, rotl}
 use Rattle.mixing.proofs.look_up.Given as goal
 
 abbrev pub invariant-loop-j : goal.invariant-loop-j
-invariant-loop-j l = (l.j ≤ 8) × (l.r ≡ xor_sum l.j (λ k. rotl (get_or l.t (byte l.w k) 0) (8 * k)))
-
-abbrev pub decreases-loop-j : goal.decreases-loop-j
-decreases-loop-j l = 8 - l.j
+invariant-loop-j l = l.r ≡ xor_sum l.j (λ k. rotl (get_or l.t (byte l.w k) 0) (8 * k))

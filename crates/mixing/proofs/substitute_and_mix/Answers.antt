@@ -12,4 +12,4 @@ use Rattle.mixing.proofs.substitute_and_mix.Goals as goal
 pub returns : goal.returns
 returns c =
     let w = c.args.w in
-    c.look_up.ensures ∙ ap (λ (t : List ℕ). lookup t w) c.merged_table-t.ensures ∙ lookup_merged row table1 table1_undo.there w
+    c.look_up.ensures ∙ ap (λ (t : List ℕ). lookup t w) c.merged_table.ensures ∙ lookup_merged row table1 table1_undo.there w

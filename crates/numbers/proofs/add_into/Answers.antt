@@ -1,46 +1,28 @@
 -- The carry stands before byte i: the bytes before it still stand, those from it on are done.
 -- Assumes nothing.
-use mathlib.Core.Path.{◌≡◌, refl, sym, ap, ◌∙◌}
-use Prim.Native.Nat.{ℕ, ◌+◌, ◌-◌, ◌/◌, ◌%◌, ◌^◌, ◌<◌}
+use mathlib.Core.Path.{◌≡◌, sym, ap, ◌∙◌}
+use Prim.Native.Nat.{ℕ, ◌+◌, ◌-◌, ◌/◌, ◌%◌}
 use native.Mathlib.Omega.{arith}
-use lib.ListN.{get_or, set, length-set}
 use borrow.Author.Rules.{rules}
-use Rattle.numbers.proofs.Adding.{added, added_first, added_next, before_next, added_none, scaled_all}
+use lib.ListN.{get_or, set}
+use Rattle.numbers.proofs.Adding.{added, added_next, before_next, added_none, scaled_all}
 use Rattle.numbers.proofs.add_into.Goals as goal
-use Rattle.numbers.proofs.add_into.Goals.{After-wide}
-
-pub loop-i-init : goal.loop-i-init
-loop-i-init c = (search rules, refl, search rules, refl, added_first c.args.c.now c.args.v)
-
--- the byte that is read is one
-small : (c : After-wide) → c.wide.result < 2 ^ 8
-small c = omega (arith, c.wide.ensures, c.slice_known-in-loop-i-1.given (c.loop-i.i - 1))
-
-pub overflow_add-t : goal.overflow_add-t
-overflow_add-t c = omega (arith, small c)
-
-pub overflow_add-carry : goal.overflow_add-carry
-overflow_add-carry c = omega (arith, small c)
 
 pub loop-i-preserved : goal.loop-i-preserved
 loop-i-preserved c =
-    let x = c.wide.result in
-    let i = c.loop-i.i in
-    let carry = c.loop-i.carry in
-    let e : x ≡ get_or c.loop-i.c (i - 1) 0 = c.wide.ensures in (
-      search rules,
-      simp length-set (omega arith),
-      omega (arith, small c),
-      before_next c.loop-i.c c.args.c.now i ((x + carry % 256) % 256) c.loop-i.invariant.3,
-      ap (λ (y : ℕ). added (set c.loop-i.c (i - 1) ((x + carry % 256) % 256)) (i - 1) (carry / 256 + (y + carry % 256) / 256)) e
-          ∙ added_next c.loop-i.c i carry (omega arith) (omega arith) (ap (λ (y : ℕ). (y + carry % 256) % 256) e) ∙ c.loop-i.invariant.4,
+    let x = c.from.result in
+    let l = c.loop-i in
+    let carry = l.carry in
+    let e : x ≡ get_or l.c (l.i - 1) 0 = c.from.ensures in (
+      before_next l.c c.args.c.now l.i ((x + carry % 256) % 256) l.invariant.0,
+      ap (λ (y : ℕ). added (set l.c (l.i - 1) ((x + carry % 256) % 256)) (l.i - 1) (carry / 256 + (y + carry % 256) / 256)) e
+          ∙ added_next l.c l.i carry (omega arith) (omega arith) (ap (λ (y : ℕ). (y + carry % 256) % 256) e) ∙ l.invariant.1,
     )
 
-pub returns-else-carry-ne0 : goal.returns-else-carry-ne0
-returns-else-carry-ne0 c =
-    sym (added_none c.loop-i.c c.args.c.now c.loop-i.i (λ k. omega (arith, c.slice_known-1.given k)) c.loop-i.invariant.3 c.loop-i.invariant.0 (c.if-carry-ne0.false))
-    ∙ c.loop-i.invariant.4
+pub returns-then-carry-eq0 : goal.returns-then-carry-eq0
+returns-then-carry-eq0 c =
+    let l = c.loop-i in
+    sym (added_none l.c c.args.c.now l.i (λ k. search rules) l.invariant.0 (omega arith) c.if-carry-eq0.true) ∙ l.invariant.1
 
 pub returns-after-loop-i : goal.returns-after-loop-i
-returns-after-loop-i c =
-    sym (scaled_all 1 c.loop-i.c c.loop-i.i c.loop-i.carry (omega arith)) ∙ c.loop-i.invariant.4
+returns-after-loop-i c = let l = c.loop-i in sym (scaled_all 1 l.c l.i l.carry (omega arith)) ∙ l.invariant.1

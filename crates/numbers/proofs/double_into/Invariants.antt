@@ -1,14 +1,11 @@
 -- The carry stands before byte i: the bytes before it still stand, those from it on are done.
 -- Assumes nothing.
 use mathlib.Core.Path.{◌≡◌}
-use Prim.Native.Nat.{◌-◌, ◌*◌, ◌≤◌, ◌<◌}
+use Prim.Native.Nat.{◌*◌, ◌<◌}
 use lib.ListN.{length}
 use Rattle.forms.specs.Strings.{number, string}
 use Rattle.numbers.proofs.Adding.{scaled}
 use Rattle.numbers.proofs.double_into.Given as goal
 
 abbrev pub invariant-loop-i : goal.invariant-loop-i
-invariant-loop-i l = (l.i ≤ length l.initial.c) × (length l.c ≡ length l.initial.c) × (l.carry < 2) × (scaled 2 l.c l.i l.carry ≡ string (length l.initial.c) (2 * number l.initial.c))
-
-abbrev pub decreases-loop-i : goal.decreases-loop-i
-decreases-loop-i l = l.i
+invariant-loop-i l = (l.carry < 2) × (scaled 2 l.c l.i l.carry ≡ string (length l.initial.c) (2 * number l.initial.c))

@@ -1,7 +1,5 @@
 -- The bytes of the word mixed by the published row, which is accepted.
 -- Assumes nothing.
-use mathlib.Core.Path.{refl}
-use native.Mathlib.Omega.{arith}
 use Rattle.field.specs.Mixing.{mix}
 use Rattle.field.specs.Published.{row}
 use Rattle.rows.proofs.Rows.{published_word}
@@ -10,4 +8,4 @@ use Rattle.operands.proofs.mix_bytes.Goals as goal
 
 pub returns : goal.returns
 returns c =
-    word_mapped (mix row) c.args.b.now _ (omega arith) refl c.load_word.ensures (published_word _ c.row.ensures c.mix-m.ensures) c.store_word.ensures
+    word_mapped (mix row) c.args.b.now c.from_le_bytes.ensures (published_word _ c.row.ensures c.mix-m.ensures) c.to_le_bytes.ensures

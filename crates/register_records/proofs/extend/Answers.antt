@@ -1,6 +1,7 @@
 -- The length, or a full register, or the count and the entry put.
 -- Assumes nothing.
 use native.Mathlib.Omega.{arith}
+use borrow.Author.Rules.{rules}
 use Rattle.register_records.proofs.Parts.{other_length, full, put_behind_others}
 use Rattle.register_records.proofs.extend.Goals as goal
 
@@ -13,5 +14,5 @@ returns-then-n-ge64 c =
 
 pub returns : goal.returns
 returns c =
-    put_behind_others c.args.d.now c.if-d-ne2824.false (λ i. omega (arith, c.slice_known-1.given i)) c.args.e
+    put_behind_others c.args.d.now c.if-d-ne2824.false (λ i. search rules) c.args.e
     c.load_word-n.ensures (omega arith) c.store_word.ensures c.lay.ensures

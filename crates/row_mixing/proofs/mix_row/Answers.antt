@@ -1,7 +1,6 @@
 -- After k turns the word is the XOR over the coefficients below k.
 -- Assumes nothing.
 use mathlib.Core.Path.{◌≡◌, refl, sym, ap₂, ◌∙◌}
-use Prim.Native.Nat.{◌-◌}
 use native.Mathlib.Omega.{arith}
 use lib.ListN.{get_or}
 use Rattle.forms.specs.Lists.{xor_sum}
@@ -14,7 +13,7 @@ use Rattle.row_mixing.proofs.mix_row.Goals as goal
 
 pub loop-k-init : goal.loop-k-init
 unfolding xor_sum
-loop-k-init c = (omega arith, refl)
+loop-k-init c = refl
 
 pub loop-k-preserved : goal.loop-k-preserved
 loop-k-preserved c =
@@ -23,7 +22,7 @@ loop-k-preserved c =
     let a = c.args in
     let made : c.at_bits.result ≡ scale (get_or a.g l.k 0) a.w =
     c.at_bits.ensures ∙ scale_powers (get_or a.g l.k 0) a.w (omega arith) w.result w.ensures in
-    (omega arith, xor_sum_next l.k _ l.invariant.1 (c.rotate_left-r.ensures ∙ ap₂ rotl made (omega arith)))
+    xor_sum_next l.k _ l.invariant (c.rotate_left-r.ensures ∙ ap₂ rotl made (omega arith))
 
 pub returns : goal.returns
-returns c = let l = c.loop-k in let e : l.k ≡ 8 = omega arith in xor_sum_end _ e l.invariant.1 ∙ sym (mix_coefficients _ _)
+returns c = let e : c.loop-k.k ≡ 8 = omega arith in xor_sum_end _ e c.loop-k.invariant ∙ sym (mix_coefficients _ _)

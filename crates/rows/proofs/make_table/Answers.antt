@@ -18,4 +18,4 @@ returns-then-table-ne256 c =
 pub returns : goal.returns
 returns c =
     let g = c.args.g in
-    let filled : _ ≡ merged g c.sbox-s.result = c.fill.ensures in record { number = sym ((table_iff g _).1 ((row_iff g).0 (sym c.row_refusal-number.ensures ∙ c.if-number-ne0.false), c.if-table-ne256.false)); table = filled ∙ ap (merged g) c.sbox-s.ensures }
+    let filled : _ ≡ merged g c.sbox.result = c.fill.ensures in record { number = sym ((table_iff g _).1 ((row_iff g).0 (sym c.row_refusal-number.ensures ∙ c.if-number-ne0.false), c.if-table-ne256.false)); table = filled ∙ ap (merged g) c.sbox.ensures }

@@ -1,27 +1,18 @@
--- After k turns the word is mixed k times.
+-- After some turns the word is mixed as often.
 -- Assumes nothing.
-use mathlib.Core.Path.{◌≡◌, refl, sym, ap, ◌∙◌}
-use Prim.Native.Nat.{ℕ, ◌-◌}
+use mathlib.Core.Path.{refl, sym, ap, ◌∙◌}
+use Prim.Native.Nat.{ℕ}
 use native.Mathlib.Numerals.{add-one}
-use native.Mathlib.Omega.{arith}
 use Rattle.forms.specs.Lists.{iterate}
 use Rattle.field.specs.Mixing.{mix}
 use Rattle.rows.proofs.power.Goals as goal
 
-pub loop-k-init : goal.loop-k-init
+pub loop-init : goal.loop-init
 unfolding iterate
-loop-k-init c = (omega arith, refl)
+loop-init c = refl
 
-pub loop-k-preserved : goal.loop-k-preserved
+pub loop-preserved : goal.loop-preserved
 unfolding iterate
-loop-k-preserved c =
-    let l = c.loop-k in
+loop-preserved c =
     let g = c.args.g in
-    (omega arith, c.mix_row-w.ensures ∙ ap (mix g) l.invariant.1 ∙ ap (λ (m : ℕ). iterate m (mix g) 1) (sym (add-one l.k)))
-
-pub returns : goal.returns
-returns c =
-    let l = c.loop-k in
-    let a = c.args in
-    let e : l.k ≡ a.n = omega arith in
-    l.invariant.1 ∙ ap (λ (m : ℕ). iterate m (mix a.g) 1) e
+    c.mix_row-w.ensures ∙ ap (mix g) c.loop.invariant ∙ ap (λ (m : ℕ). iterate m (mix g) 1) (sym (add-one c.loop.counter))

@@ -1,9 +1,8 @@
--- A word stored in a buffer of its own.
+-- std's bytes of a word are the article's.
 -- Assumes nothing.
-use Rattle.forms.specs.Lists.{tabulate}
-use Rattle.buffers.specs.Words.{inside, with_word}
+use mathlib.Core.Path.{◌∙◌}
+use Rattle.word_bytes.proofs.Words.{le_bytes}
 use Rattle.rows.proofs.row_of.Goals as goal
 
 pub returns : goal.returns
-unfolding with_word inside tabulate
-returns c = c.store_word.ensures
+returns c = c.to_le_bytes.ensures ∙ le_bytes _

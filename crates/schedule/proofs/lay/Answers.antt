@@ -1,25 +1,20 @@
--- After j turns the words below j are laid.
+-- The words that are copied are those that are read one by one.
 -- Assumes nothing.
-use mathlib.Core.Path.{◌≡◌, ap, ◌∙◌}
-use Prim.Native.Nat.{ℕ, ◌-◌}
-use native.Mathlib.Omega.{arith}
-use Rattle.forms.specs.Lists.{tabulate, words_from}
-use Rattle.forms.proofs.Buffers.{put, put_none, put_words}
+use Rattle.std.proofs.Common.{◌≡◌, ℕ, ◌++◌, ◌+◌, ◌-◌, ◌≤◌, List, length, ap, ◌∙◌, take, drop, arith}
+use Rattle.std.proofs.lemmas.List.{get_or-drop, drop-drop, length-drop}
+use Rattle.forms.specs.Lists.{words_from}
+use Rattle.forms.proofs.Lists.{take_tabulate, tabulate_cong}
 use Rattle.schedule.proofs.lay.Goals as goal
 
-pub loop-j-init : goal.loop-j-init
-unfolding words_from tabulate
-loop-j-init c = let a = c.args in (omega arith, put_none a.ks.now a.at)
-
-pub loop-j-preserved : goal.loop-j-preserved
-loop-j-preserved c =
-    let v = c.loop-j in
-    let a = c.args in
-    (omega arith, put_words a.from a.words.now a.ks.now v.ks a.at v.j (omega arith) v.invariant.1)
+copied : (n from : ℕ) (ws : List ℕ) → from + n ≤ length ws → take n (drop from ws) ≡ words_from n from ws
+unfolding words_from
+copied n from ws h = take_tabulate n (drop from ws) (omega (arith, length-drop from ws)) ∙ tabulate_cong n _ _ (λ i l. get_or-drop from ws i 0)
 
 pub returns : goal.returns
 returns c =
-    let v = c.loop-j in
     let a = c.args in
-    let e : v.j ≡ a.n = omega arith in
-    v.invariant.1 ∙ ap (λ (m : ℕ). put a.at m (words_from m a.from a.words.now) a.ks.now) e
+    let n : a.at + a.n - a.at ≡ a.n = omega arith in
+    let m : a.from + a.n - a.from ≡ a.n = omega arith in
+    rw n (ap (λ (x : List ℕ). take a.at a.ks.now ++ (x ++ drop a.n (drop a.at a.ks.now)))
+    (c.copy_from_slice.ensures.after ∙ ap (λ (k : ℕ). take k (drop a.from a.words.now)) m ∙ copied a.n a.from a.words.now (omega arith))
+    ∙ ap (λ (x : List ℕ). take a.at a.ks.now ++ (words_from a.n a.from a.words.now ++ x)) (drop-drop a.n a.at a.ks.now))

@@ -1,7 +1,7 @@
 -- After i turns the half-blocks below i are laid.
 -- Assumes nothing.
 use mathlib.Core.Path.{refl, ◌∙◌}
-use Prim.Native.Nat.{◌≤◌, ◌<◌, ◌+◌, ◌-◌, ◌*◌}
+use Prim.Native.Nat.{◌≤◌, ◌<◌, ◌+◌, ◌*◌}
 use native.Mathlib.Omega.{arith}
 use lib.ListN.{replicate}
 use Rattle.labyrinth.specs.Keys.{order}
@@ -10,7 +10,7 @@ use Rattle.schedule.proofs.lay_all.Goals as goal
 use Rattle.schedule.proofs.lay_all.Goals.{After-subkey}
 
 pub loop-i-init : goal.loop-i-init
-loop-i-init c = let a = c.args in (omega arith, laid_first a.n a.words a.back (replicate 80 0))
+loop-i-init c = let a = c.args in laid_first a.n a.words a.back (replicate 80 0)
 
 pub overflow_mul-i : goal.overflow_mul-i
 overflow_mul-i c = omega (arith, within c.args.n c.requires c.loop-i.i 20 (omega arith))
@@ -34,17 +34,17 @@ lay-requires c =
     let v = c.loop-i in
     let a = c.args in
     let l : v.i < 20 = omega arith in
-    (within a.n c.requires v.i 20 l, narrow c, laid_length a.n a.words a.back c.requires v.i l v.invariant.1)
+    (within a.n c.requires v.i 20 l, narrow c, laid_length a.n a.words a.back c.requires v.i l v.invariant)
 
 pub loop-i-preserved : goal.loop-i-preserved
 loop-i-preserved c =
     let v = c.loop-i in
     let a = c.args in
     let l : v.i < 20 = omega arith in
-    (omega arith, c.lay.ensures ∙ laid_next a.n a.words a.back c.requires (replicate 80 0) v.i (within a.n c.requires v.i 20 l) c.subkey.ensures v.invariant.1)
+    c.lay.ensures ∙ laid_next a.n a.words a.back c.requires (replicate 80 0) v.i (within a.n c.requires v.i 20 l) c.subkey.ensures v.invariant
 
 pub returns : goal.returns
 returns c =
     let v = c.loop-i in
     let a = c.args in
-    laid_all a.n a.words a.back c.requires (omega arith) v.invariant.1
+    laid_all a.n a.words a.back c.requires (omega arith) v.invariant

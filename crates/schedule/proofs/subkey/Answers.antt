@@ -13,35 +13,35 @@ use Rattle.schedule.proofs.subkey.Goals as goal
 
 pub returns-then-back : goal.returns-then-back
 unfolding use_order order
-returns-then-back c = rw (c.if-i-eq0.true, c.if-back.true)
+returns-then-back c = rw (c.in-0.is, c.if-back.true)
 
 pub returns-else-back : goal.returns-else-back
 unfolding use_order order
-returns-else-back c = rw (c.if-i-eq0.true, c.if-back.false)
+returns-else-back c = rw (c.in-0.is, c.if-back.false)
 
 pub returns-then-back-2 : goal.returns-then-back-2
 unfolding use_order order
-returns-then-back-2 c = rw (c.if-i-eq1.true, c.if-back-2.true)
+returns-then-back-2 c = rw (c.in-1.is, c.if-back-2.true)
 
 pub returns-else-back-2 : goal.returns-else-back-2
 unfolding use_order order
-returns-else-back-2 c = rw (c.if-i-eq1.true, c.if-back-2.false)
+returns-else-back-2 c = rw (c.in-1.is, c.if-back-2.false)
 
 pub returns-then-back-3 : goal.returns-then-back-3
 unfolding use_order order
-returns-then-back-3 c = rw (c.if-i-eq18.true, c.if-back-3.true)
+returns-then-back-3 c = rw (c.in-18.is, c.if-back-3.true)
 
 pub returns-else-back-3 : goal.returns-else-back-3
 unfolding use_order order
-returns-else-back-3 c = rw (c.if-i-eq18.true, c.if-back-3.false)
+returns-else-back-3 c = rw (c.in-18.is, c.if-back-3.false)
 
 pub returns-then-back-4 : goal.returns-then-back-4
 unfolding use_order order
-returns-then-back-4 c = rw (c.if-i-eq19.true, c.if-back-4.true)
+returns-then-back-4 c = rw (c.in-19.is, c.if-back-4.true)
 
 pub returns-else-back-4 : goal.returns-else-back-4
 unfolding use_order order
-returns-else-back-4 c = rw (c.if-i-eq19.true, c.if-back-4.false)
+returns-else-back-4 c = rw (c.in-19.is, c.if-back-4.false)
 
 pub returns-then-back-5 : goal.returns-then-back-5
 returns-then-back-5 c =

@@ -9,19 +9,18 @@ use borrow.Author.Rules.{rules}
 use Rattle.strings.proofs.copy_into.Goals as goal
 
 pub loop-i-init : goal.loop-i-init
-loop-i-init c = (search rules, refl, refl)
+loop-i-init c = (refl, refl)
 
 pub loop-i-preserved : goal.loop-i-preserved
 loop-i-preserved c =
     let d₀ = c.args.d.now in
     let s = c.args.s.now in (
-      omega arith,
       simp length-set (omega arith),
-      lay_next s d₀ c.loop-i.i (omega arith) (omega arith) c.loop-i.invariant.2 refl,
+      lay_next s d₀ c.loop-i.i (omega arith) (omega arith) c.loop-i.invariant.1 refl,
     )
 
 pub returns : goal.returns
 returns c =
     let d₀ = c.args.d.now in
     let s = c.args.s.now in
-    lay_all s d₀ c.loop-i.i (omega arith) c.loop-i.invariant.2
+    lay_all s d₀ c.loop-i.i (omega arith) c.loop-i.invariant.1

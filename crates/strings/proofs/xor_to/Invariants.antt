@@ -2,13 +2,9 @@
 -- Assumes nothing.
 use mathlib.Core.Path.{◌≡◌}
 use mathlib.Core.List.{◌++◌}
-use Prim.Native.Nat.{◌-◌, ◌≤◌}
-use lib.ListN.{length, take, drop}
+use lib.ListN.{take, drop}
 use Rattle.forms.specs.Strings.{xor_bytes}
 use Rattle.strings.proofs.xor_to.Given as goal
 
 abbrev pub invariant-loop-i : goal.invariant-loop-i
-invariant-loop-i l = (l.i ≤ l.m) × (l.initial.i ≤ l.i) × (length l.d ≡ length l.initial.d) × (l.d ≡ take l.i (xor_bytes l.a l.b) ++ drop l.i l.initial.d)
-
-abbrev pub decreases-loop-i : goal.decreases-loop-i
-decreases-loop-i l = l.m - l.i
+invariant-loop-i l = l.d ≡ take l.i (xor_bytes l.a l.b) ++ drop l.i l.initial.d

@@ -1,11 +1,7 @@
 -- The length, then byte by byte from the last: one that was marked before stands twice.
 -- Assumes nothing.
-use Prim.Native.Nat.{◌-◌, ◌≤◌}
 use Rattle.substitutions.proofs.Seen.{Seen}
 use Rattle.substitutions.proofs.is_different.Given as goal
 
 abbrev pub invariant-loop-i : goal.invariant-loop-i
-invariant-loop-i l = (l.i ≤ 256) × Seen l.s l.i l.seen
-
-abbrev pub decreases-loop-i : goal.decreases-loop-i
-decreases-loop-i l = l.i
+invariant-loop-i l = Seen l.s l.i l.seen

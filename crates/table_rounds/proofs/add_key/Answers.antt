@@ -1,6 +1,6 @@
 -- After j turns the first j words are the sums.
 -- Assumes nothing.
-use Rattle.std.proofs.Common.{◌≡◌, ◌-◌, arith}
+use Rattle.std.proofs.Common.{◌≡◌, arith}
 use Rattle.forms.proofs.Lists.{replaced_none, replaced_more}
 use Rattle.labyrinth.proofs.Rounds.{added}
 use Rattle.table_rounds.proofs.add_key.Goals as goal

@@ -1,11 +1,7 @@
--- The four words are stored one by one.
+-- The four words are stored together.
 -- Assumes nothing.
-use Rattle.std.proofs.Common.{get_or, sym, refl, w64}
-use borrow.Kind.Array.{good_length, e_int}
-use Rattle.forms.specs.Lists.{tabulate}
-use Rattle.forms.proofs.Lists.{tabulated}
+use Rattle.std.proofs.Common.{◌∙◌, take_at}
 use Rattle.table_rounds.proofs.alone.Goals as goal
 
 pub returns : goal.returns
-unfolding tabulate
-returns c = let k = c.args.k in sym (tabulated 4 (λ i. get_or k i 0) 0 k (good_length (e_int w64) 4 k _ c.well_formed.0) (λ i l. refl))
+returns c = let e = c.copy_from_slice.ensures in take_at c.copy_from_slice.new.self _ 4 e.len ∙ e.after

@@ -1,6 +1,6 @@
 -- After p turns of the outer loop and d of the inner one the two sums have the terms below p + d, and those four on.
 -- Assumes nothing.
-use Rattle.std.proofs.Common.{◌≡◌, ℕ, ◌+◌, ◌-◌, sym, ap, add-zero, mod-lt, arith}
+use Rattle.std.proofs.Common.{◌≡◌, ℕ, ◌+◌, sym, ap, add-zero, mod-lt, arith}
 use native.Mathlib.Nat.{zero-mod}
 use Rattle.labyrinth.specs.Working.{lookup_in}
 use Rattle.labyrinth.proofs.Permutation.{sums_none, sums_more, sums_at, sums_all, multiple_more, multiple_end}

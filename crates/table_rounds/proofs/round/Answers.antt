@@ -1,6 +1,6 @@
 -- After j turns the first j words of both halves are the new ones.
 -- Assumes nothing.
-use Rattle.std.proofs.Common.{◌≡◌, ◌-◌, refl, arith}
+use Rattle.std.proofs.Common.{◌≡◌, refl, arith}
 use Rattle.labyrinth.proofs.Rounds.{turned_none, turned_more, turned_all}
 use Rattle.table_rounds.proofs.round.Goals as goal
 

@@ -1,6 +1,6 @@
 -- At a place (i + 2) n of the schedule i iterations are done.
 -- Assumes nothing.
-use Rattle.std.proofs.Common.{◌-◌, arith}
+use Rattle.std.proofs.Common.{arith}
 use Rattle.labyrinth.proofs.Rounds.{ran_none, ran_inside, ran_more, ran_all}
 use Rattle.table_rounds.proofs.rounds_of.Goals as goal
 

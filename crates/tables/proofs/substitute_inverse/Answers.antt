@@ -1,6 +1,6 @@
 -- The table is Table 1's inverse.
 -- Assumes nothing.
-use mathlib.Core.Path.{ap, ◌∙◌}
+use mathlib.Core.Path.{ap₂, ◌∙◌}
 use mathlib.Core.List.{List}
 use Prim.Native.Nat.{ℕ}
 use native.Mathlib.Omega.{arith}
@@ -12,4 +12,4 @@ use Rattle.tables.proofs.substitute_inverse.Goals as goal
 
 pub returns : goal.returns
 unfolding sub
-returns c = ap (λ (s : List ℕ). get_or s c.args.b 0) c.sbox_inverse-inverse.ensures ∙ sub_invert table1 c.args.b (omega arith)
+returns c = ap₂ (λ (s : List ℕ) (b : ℕ). get_or s b 0) c.sbox_inverse-inverse.ensures c.from.ensures ∙ sub_invert table1 c.args.b (omega arith)

@@ -1,6 +1,6 @@
 -- After i turns the words below i of both halves are there.
 -- Assumes nothing.
-use Rattle.std.proofs.Common.{◌≡◌, ℕ, ◌+◌, ◌-◌, ◌%◌, ◌<◌, take, sym, refl, ap₂, mod-lt, arith, get_or-take}
+use Rattle.std.proofs.Common.{◌≡◌, take, sym, refl, ap₂, arith, get_or-take}
 use lib.Bits.{bit_xor}
 use Rattle.forms.specs.Lists.{tabulate}
 use Rattle.labyrinth.specs.Blocks.{Block}
@@ -8,19 +8,10 @@ use Rattle.labyrinth.specs.Working.{four_words}
 use Rattle.labyrinth.proofs.FourWords.{four_more, four_end}
 use Rattle.labyrinth.proofs.Ends.{sigma_at, imixed}
 use Rattle.transforms.proofs.imix.Goals as goal
-use Rattle.transforms.proofs.imix.Goals.{In-loop-i}
-
--- the place in Sigma
-module _ (c : In-loop-i) where
-  abbrev at : ℕ
-  at = (c.loop-i.i + c.args.n - 1) % c.args.n
-
-  small : at < 4
-  small = let n : ℕ = c.args.n in let h : at < n = mod-lt _ (omega arith) in omega arith
 
 pub loop-i-init : goal.loop-i-init
 unfolding four_words tabulate
-loop-i-init c = (omega arith, refl, refl)
+loop-i-init c = (refl, refl)
 
 pub loop-i-preserved : goal.loop-i-preserved
 loop-i-preserved c =
@@ -28,9 +19,8 @@ loop-i-preserved c =
     let a = c.args in
     let s : Block = (take a.n a.l, take a.n a.r) in
     let m = sigma_at s a.n v.i (omega arith) (omega arith) c.sigma-d.ensures in (
-      omega arith,
-      four_more _ v.i (omega arith) v.invariant.1 (ap₂ bit_xor (sym (get_or-take a.n a.l v.i 0 (omega arith))) m),
-      four_more _ v.i (omega arith) v.invariant.2 (ap₂ bit_xor (sym (get_or-take a.n a.r v.i 0 (omega arith))) m),
+      four_more _ v.i (omega arith) v.invariant.0 (ap₂ bit_xor (sym (get_or-take a.n a.l v.i 0 (omega arith))) m),
+      four_more _ v.i (omega arith) v.invariant.1 (ap₂ bit_xor (sym (get_or-take a.n a.r v.i 0 (omega arith))) m),
     )
 
 pub returns : goal.returns
@@ -39,4 +29,4 @@ returns c =
     let a = c.args in
     let s : Block = (take a.n a.l, take a.n a.r) in
     let e : v.i ≡ a.n = omega arith in
-    imixed a.n s (four_end _ e v.invariant.1) (four_end _ e v.invariant.2)
+    imixed a.n s (four_end _ e v.invariant.0) (four_end _ e v.invariant.1)

@@ -1,11 +1,13 @@
--- The three phases, the halves exchanged between the second and the third.
+-- The block from memory and back.
 -- Assumes nothing.
-use Rattle.labyrinth.specs.Groups.{spaced_sub, lookup_four}
-use Rattle.wide_blocks.proofs.Ends.{exchanged_two, phases}
+use Rattle.std.proofs.Common.{rules}
+use Rattle.forms.specs.Lists.{tabulate, words_from}
+use Rattle.labyrinth.specs.Groups.{spaced_sub, lookup_four, line_by}
+use Rattle.wide_blocks.proofs.Ends.{standing}
 use Rattle.wide_blocks.proofs.block_2.Goals as goal
 
 pub returns : goal.returns
+unfolding tabulate words_from
 returns c =
     let a = c.args in
-    phases (spaced_sub a.s.now) (spaced_sub a.u.now) (lookup_four a.t.now) 2 a.ks.now a.x
-    c.enter_2.ensures c.rounds_2-y.ensures (exchanged_two _) c.leave_2.ensures
+    standing 2 (line_by (spaced_sub a.s.now) (spaced_sub a.u.now) (lookup_four a.t.now) 2 a.ks.now) a.x (search rules) (search rules) c.mapped-y.ensures

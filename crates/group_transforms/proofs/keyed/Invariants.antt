@@ -1,0 +1,10 @@
+-- After i turns the words below i are there.
+-- Assumes nothing.
+use Rattle.std.proofs.Common.{◌*◌, ◌%◌, get_or}
+use Rattle.forms.proofs.Lists.{Replaced}
+use Rattle.labyrinth.specs.Blocks.{plus}
+use Rattle.labyrinth.specs.Groups.{spaced_sub}
+use Rattle.group_transforms.proofs.keyed.Given as goal
+
+abbrev pub invariant-loop-i : goal.invariant-loop-i
+invariant-loop-i g l = Replaced (λ i'. spaced_sub l.s (plus (get_or l.x i' 0) (get_or l.ks (i' % (2 * g.row.N)) 0))) l.initial.y l.i l.y
