@@ -41,7 +41,8 @@ pub struct Product {
     pub turns: u32,
 }
 
-// The product of a by the multiplier b. The loop ends after the highest one of b.
+// The product of a by the multiplier b. The loop ends after the highest one of b, and counts its turns itself: so the clause speaks of them, and
+// not of where they were to end.
 pub fn times(a: u8, b: u8) -> Product
     ensures value { result.value ≡ mul a b }
     ensures turns { result.turns ≡ bit_length 8 b }
@@ -50,12 +51,14 @@ pub fn times(a: u8, b: u8) -> Product
     let mut value = 0u8;
     let mut x = a;
     let mut y = b;
+    let mut turns = 0u32;
     for _ in 0..end {
         value ^= (y % 2) * x;
         x = times_x(x);
         y /= 2;
+        turns += 1;
     }
-    Product { value, turns: end }
+    Product { value, turns }
 }
 
 // A byte to the power n, by squares. A `while`, as m halves in each turn and the loop ends after its highest one.

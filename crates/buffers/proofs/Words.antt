@@ -50,11 +50,11 @@ pub copied_put : (at to m : ℕ) (xs d : List ℕ) → to - at ≡ m → copied 
 copied_put at to m xs d e = ap (λ (x : List ℕ). take at d ++ (xs ++ x)) (drop-drop (to - at) at d ∙ ap (λ (i : ℕ). drop (at + i) d) e)
 
 -- as the library's methods make them
-pub word_loaded : (s : List ℕ) (at : ℕ) {b : List ℕ} {w : ℕ} → at + 8 ≤ length s → b ≡ take 8 (take (length s - at) (drop at s)) → w ≡ from_le_bytes w64 b → w ≡ word_at s at
-word_loaded s at {b} h p q =
+pub word_loaded : (s : List ℕ) (at : ℕ) {m : ℕ} {b : List ℕ} {w : ℕ} → at + 8 ≤ length s → 8 ≤ m → b ≡ take 8 (take m (drop at s)) → w ≡ from_le_bytes w64 b → w ≡ word_at s at
+word_loaded s at {m} {b} h long p q =
     q ∙ from_le b
     ∙ join_cong 8 _ _
-    (λ k l. ap (λ (x : List ℕ). get_or x k 0) p ∙ get_or-take 8 (take (length s - at) (drop at s)) k 0 l ∙ get_or-take (length s - at) (drop at s) k 0 (omega arith) ∙ get_or-drop at s k 0)
+    (λ k l. ap (λ (x : List ℕ). get_or x k 0) p ∙ get_or-take 8 (take m (drop at s)) k 0 l ∙ get_or-take m (drop at s) k 0 (omega arith) ∙ get_or-drop at s k 0)
     ∙ sym (word_at_lem s at h)
 
 pub word_stored : (d : List ℕ) (at w : ℕ) {b : List ℕ} → at + 8 ≤ length d → b ≡ to_le_bytes w64 w → copied at (at + 8) b d ≡ with_word at w d

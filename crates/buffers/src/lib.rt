@@ -19,7 +19,7 @@ pub fn load_word(s: &[u8], at: usize) -> u64
     if !is_inside(at, s.len()) {
         return 0;
     }
-    match s[at..].first_chunk::<8>() {
+    match s[at..at + 8].first_chunk::<8>() {
         Some(b) => u64::from_le_bytes(*b),
         None => 0,
     }

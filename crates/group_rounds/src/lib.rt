@@ -5,7 +5,7 @@
 #![tactic(auto)]
 
 ghost use Rattle.std.specs.Prelude.{◌≡◌, ◌+◌, ◌*◌, ◌/◌, ◌%◌, ◌<◌, ◌≤◌, true, [], ◌∷◌, bit_xor, slice_index};
-ghost use Rattle.forms.specs.Lists.{tabulate, xor_sum, words_from};
+ghost use Rattle.forms.specs.Lists.{tabulate, when, xor_sum, words_from};
 ghost use Rattle.forms.specs.Words.{byte};
 ghost use Rattle.field.specs.Published as published;
 ghost use Rattle.labyrinth.specs.Blocks.{plus};
@@ -85,7 +85,7 @@ fn turned<const N: usize>(
 
 // All sixteen; h itself for an illegal N.
 pub fn rounds<const N: usize>(t: &[u64; 2048], ks: &[u64; 80], h: Halves) -> Halves
-    ensures { legal N ≡ true → result ≡ besides N (iterations (lookup_in true t.now) N (λ i. half N ks.now (i + 2)) 16) h }
+    ensures { result ≡ when (legal N) (besides N (iterations (lookup_in true t.now) N (λ i. half N ks.now (i + 2)) 16) h) h }
 {
     if !labyrinth::is_legal(N) {
         return h;

@@ -3,8 +3,8 @@
 // N is a const parameter: so each N has a machine text of its own, and no place is computed as it runs.
 #![tactic(auto)]
 
-ghost use Rattle.std.specs.Prelude.{◌≡◌, true, ◌+◌, ◌-◌, ◌*◌, ◌/◌, ◌%◌, ◌<◌, ◌≤◌, slice_index};
-ghost use Rattle.forms.specs.Lists.{tabulate};
+ghost use Rattle.std.specs.Prelude.{◌≡◌, ◌+◌, ◌-◌, ◌*◌, ◌/◌, ◌%◌, ◌<◌, ◌≤◌, slice_index, replicate};
+ghost use Rattle.forms.specs.Lists.{tabulate, when};
 ghost use Rattle.forms.specs.Words.{rotl};
 ghost use Rattle.labyrinth.specs.Blocks.{plus, minus, each};
 ghost use Rattle.labyrinth.specs.Cipher.{IMix};
@@ -80,7 +80,7 @@ fn keyed<const N: usize>(s: &[u8; 2056], ks: &[u64; 80], x: [u64; 8]) -> [u64; 8
 
 // IT; zeros for an illegal N.
 pub fn enter<const N: usize>(s: &[u8; 2056], ks: &[u64; 80], x: [u64; 8]) -> Halves
-    ensures { legal N ≡ true → result ≡ besides N (enter_by (spaced_sub s.now) N (half N ks.now 1, half N ks.now 0)) (apart N x) }
+    ensures { result ≡ when (legal N) (besides N (enter_by (spaced_sub s.now) N (half N ks.now 1, half N ks.now 0)) (apart N x)) (both (replicate 4 0) (replicate 4 0)) }
 {
     if !labyrinth::is_legal(N) {
         return Halves {
@@ -125,7 +125,7 @@ fn unkeyed<const N: usize>(u: &[u8; 2056], ks: &[u64; 80], x: [u64; 8]) -> [u64;
 
 // FT; zeros for an illegal N.
 pub fn leave<const N: usize>(u: &[u8; 2056], ks: &[u64; 80], h: Halves) -> [u64; 8]
-    ensures { legal N ≡ true → result ≡ joined N (besides N (leave_by (spaced_sub u.now) N (half N ks.now 19, half N ks.now 18)) h) }
+    ensures { result ≡ when (legal N) (joined N (besides N (leave_by (spaced_sub u.now) N (half N ks.now 19, half N ks.now 18)) h)) (replicate 8 0) }
 {
     if !labyrinth::is_legal(N) {
         return [0; 8];

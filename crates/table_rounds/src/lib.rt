@@ -41,7 +41,7 @@ fn add_key(n: usize, x: &[u64; 4], ks: &[u64; 80], at: usize) -> [u64; 4]
     ensures { take n result ≡ zip n plus (take n x.now) (words_from n at ks.now) }
 {
     let mut y = [0u64; 4];
-    // A `while` over n: by `for`, or over a const parameter, a block took a tenth longer at n = 2 and 4 (measured).
+    // A `while` over n: still to be timed as a `for` (docs/DESIGN-PASS.md).
     let mut j = 0usize;
     while j < n {
         y[j] = std::num::wrapping_add_u64(x[j], ks[at + j]);
@@ -69,7 +69,7 @@ fn f_word(t: &[u64], eight: bool, n: usize, y: &[u64; 4], j: usize, v: u64) -> u
 {
     let mut even = v;
     let mut odd = 0u64;
-    // A `while` over n: by `for`, or over a const parameter, a block took a tenth longer at n = 2 and 4 (measured).
+    // A `while` over n: still to be timed as a `for` (docs/DESIGN-PASS.md).
     let mut p = 0usize;
     while p + n <= 4 {
         let mut d = 0usize;
@@ -100,7 +100,7 @@ fn round(
     ensures { both l.new r.new ≡ on_block n (once (lookup_in eight t.now) n (words_from n at ks.now)) (both l.old r.old) }
 {
     let y = add_key(n, r, ks, at);
-    // A `while` over n: by `for`, or over a const parameter, a block took a tenth longer at n = 2 and 4 (measured).
+    // A `while` over n: still to be timed as a `for` (docs/DESIGN-PASS.md).
     let mut j = 0usize;
     while j < n {
         let v = f_word(t, eight, n, &y, j, l[j] ^ c[j]);
@@ -123,7 +123,7 @@ fn rounds_of(
     requires { Size n × (c.now ≡ published.constants) × (length l.old ≡ 4) × (length r.old ≡ 4) × (length t.now ≡ table_words eight) }
     ensures { both l.new r.new ≡ on_block n (iterations (lookup_in eight t.now) n (λ i. half n ks.now (i + 2)) 16) (both l.old r.old) }
 {
-    // A `while` over n: by `for`, or over a const parameter, a block took a tenth longer at n = 2 and 4 (measured).
+    // A `while` over n: still to be timed as a `for` (docs/DESIGN-PASS.md).
     let mut at = 2 * n;
     while at < 18 * n {
         round(t, eight, c, n, ks, at, l, r);

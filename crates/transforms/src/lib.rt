@@ -1,5 +1,6 @@
 // The two ends of the cipher: the initial transformation IT, from a block's bytes, and the final
-// transformation FT, to them. The text is one for all n, which is its const parameter N.
+// transformation FT, to them. The text is one for all n. The functions that dispatch on n call it
+// with 1, 2 and 4, so that the compiler makes each size by itself.
 #![tactic(auto)]
 
 ghost use Rattle.std.specs.Prelude.{◌≡◌, ◌+◌, ◌*◌, ◌<◌, ◌≤◌, ◌&&◌, [], ◌++◌, length, take, drop, ◌==◌};
@@ -69,25 +70,27 @@ fn key_in(
     x
 }
 
-// IT of a block.
-fn enter_of<const N: usize>(s: &[u8; 256], ks: &[u64; 80], src: &[u8]) -> Halves
-    requires { Size N × (length src.now ≡ 16 * N) }
-    ensures { result ≡ held (IT (sub s.now) N (half N ks.now 1, half N ks.now 0) (load N src.now)) }
-{
-    let low = key_in(s, N, ks, 0, 62, src, 0);
-    let high = key_in(s, N, ks, N, 2, src, 8 * N);
-    imix(N, high, low)
-}
-
 // IT of a block, whatever legal n is.
 fn enter_any(s: &[u8; 256], n: usize, ks: &[u64; 80], src: &[u8]) -> Halves
     requires { Size n × (length src.now ≡ 16 * n) }
     ensures { result ≡ held (IT (sub s.now) n (half n ks.now 1, half n ks.now 0) (load n src.now)) }
 {
     match n {
-        1 => enter_of::<1>(s, ks, src),
-        2 => enter_of::<2>(s, ks, src),
-        _ => enter_of::<4>(s, ks, src),
+        1 => {
+            let low = key_in(s, 1, ks, 0, 62, src, 0);
+            let high = key_in(s, 1, ks, 1, 2, src, 8);
+            imix(1, high, low)
+        }
+        2 => {
+            let low = key_in(s, 2, ks, 0, 62, src, 0);
+            let high = key_in(s, 2, ks, 2, 2, src, 16);
+            imix(2, high, low)
+        }
+        _ => {
+            let low = key_in(s, 4, ks, 0, 62, src, 0);
+            let high = key_in(s, 4, ks, 4, 2, src, 32);
+            imix(4, high, low)
+        }
     }
 }
 
@@ -95,7 +98,12 @@ fn enter_any(s: &[u8; 256], n: usize, ks: &[u64; 80], src: &[u8]) -> Halves
 fn fit(n: usize, k: usize) -> bool
     ensures { result ≡ (legal n && k == 16 * n) }
 {
-    labyrinth::is_legal(n) && k == 16 * n
+    match n {
+        1 => k == 16,
+        2 => k == 32,
+        4 => k == 64,
+        _ => false,
+    }
 }
 
 // IT of a block of bytes, by the substitution s, under the schedule's first two half-blocks; zeros for an illegal n or
@@ -135,25 +143,27 @@ fn key_out(
     }
 }
 
-// FT to a block.
-fn leave_of<const N: usize>(u: &[u8; 256], ks: &[u64; 80], h: Halves, dst: &mut [u8])
-    requires { Size N × (length dst.old ≡ 16 * N) }
-    ensures { dst.new ≡ store N (FT (sub u.now) N (half N ks.now 19, half N ks.now 18) (block_in N h)) }
-{
-    let x = imix(N, h.high, h.low);
-    key_out(u, N, ks, 18 * N, 2, &x.low, dst, 0);
-    key_out(u, N, ks, 19 * N, 62, &x.high, dst, 8 * N);
-}
-
 // FT to a block, whatever legal n is.
 fn leave_any(u: &[u8; 256], n: usize, ks: &[u64; 80], h: Halves, dst: &mut [u8])
     requires { Size n × (length dst.old ≡ 16 * n) }
     ensures { dst.new ≡ store n (FT (sub u.now) n (half n ks.now 19, half n ks.now 18) (block_in n h)) }
 {
     match n {
-        1 => leave_of::<1>(u, ks, h, dst),
-        2 => leave_of::<2>(u, ks, h, dst),
-        _ => leave_of::<4>(u, ks, h, dst),
+        1 => {
+            let x = imix(1, h.high, h.low);
+            key_out(u, 1, ks, 18, 2, &x.low, dst, 0);
+            key_out(u, 1, ks, 19, 62, &x.high, dst, 8);
+        }
+        2 => {
+            let x = imix(2, h.high, h.low);
+            key_out(u, 2, ks, 36, 2, &x.low, dst, 0);
+            key_out(u, 2, ks, 38, 62, &x.high, dst, 16);
+        }
+        _ => {
+            let x = imix(4, h.high, h.low);
+            key_out(u, 4, ks, 72, 2, &x.low, dst, 0);
+            key_out(u, 4, ks, 76, 62, &x.high, dst, 32);
+        }
     }
 }
 

@@ -1,6 +1,7 @@
 -- After some turns the value is the XOR over as many low bits of b, x is a times that power of x, and y is what is left of b.
 -- Assumes nothing.
-use mathlib.Core.Path.{◌≡◌, sym, ap, ◌∙◌}
+use mathlib.Core.Path.{◌≡◌, refl, sym, ap, ◌∙◌}
+use Prim.Native.Nat.{ℕ, ◌+◌}
 use native.Mathlib.Nat.{mod-eq_of_lt}
 use native.Mathlib.Omega.{arith}
 use Rattle.field.specs.Field.{mul, shift, times_x}
@@ -11,12 +12,16 @@ use Rattle.arithmetic.proofs.times.Goals as goal
 
 pub loop-init : goal.loop-init
 unfolding shift
-loop-init c = turned_none _ _ (sym (mod-eq_of_lt (omega arith)))
+loop-init c = (refl, turned_none _ _ (sym (mod-eq_of_lt (omega arith))))
 
 pub loop-preserved : goal.loop-preserved
 loop-preserved c =
-    let l = c.loop in turned_next _ _ l.counter l.invariant (shift_next _ l.counter (c.times_x-x.ensures ∙ ap times_x l.invariant.power))
+    let l = c.loop in
+    (ap (λ (k : ℕ). k + 1) l.invariant.0, turned_next _ _ l.turns l.invariant.1 (shift_next _ l.turns (c.times_x-x.ensures ∙ ap times_x l.invariant.1.power)))
 
-pub returns-clause-value : goal.returns-clause-value
+pub returns : goal.returns
 unfolding mul
-returns-clause-value c = let e : c.loop.counter ≡ bit_length 8 c.args.b = omega arith in turned_end _ _ e c.loop.invariant
+returns c =
+    let l = c.loop in
+    let e : l.turns ≡ bit_length 8 c.args.b = omega arith in
+    record { value = turned_end _ _ e l.invariant.1; turns = e }

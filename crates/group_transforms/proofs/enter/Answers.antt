@@ -1,6 +1,7 @@
 -- The keyed words, their halves, and IMix of each block.
 -- Assumes nothing.
 use Rattle.std.proofs.Common.{sym, ◌∙◌, arith}
+use Rattle.forms.proofs.Booleans.{when_chosen, when_spared}
 use Rattle.labyrinth.specs.Working.{Size}
 use Rattle.labyrinth.specs.Groups.{spaced_sub}
 use Rattle.labyrinth.proofs.Refusals.{legal_size_of}
@@ -23,7 +24,11 @@ taken-requires-2 g c = (size g (goal.at.taken-requires-2 g c).Else-not-is_legal,
 pub imix-requires : goal.imix-requires
 imix-requires g c = size g (goal.at.imix-requires g c).Else-not-is_legal
 
+pub returns-then-not-is_legal : goal.returns-then-not-is_legal
+returns-then-not-is_legal g c = when_spared _ _ c.is_legal.ensures c.if-not-is_legal.true
+
 pub returns : goal.returns
-returns g c _ =
+returns g c =
     let a = c.args in
     entered (spaced_sub a.s.now) g.row.N (size g (goal.at.returns g c).Else-not-is_legal) a.ks.now a.x c.keyed-y.ensures c.taken.ensures c.taken-2.ensures c.imix.ensures
+    ∙ when_chosen _ _ c.is_legal.ensures c.if-not-is_legal.false

@@ -1,11 +1,9 @@
 -- The first i bytes are s's, and the others still stand.
 -- Assumes nothing.
 use mathlib.Core.Path.{refl}
-use Prim.Native.Nat.{◌-◌}
 use native.Mathlib.Omega.{arith}
 use lib.ListN.{length-set}
 use Rattle.strings.proofs.Laying.{lay_next, lay_all}
-use borrow.Author.Rules.{rules}
 use Rattle.strings.proofs.copy_into.Goals as goal
 
 pub loop-i-init : goal.loop-i-init
